@@ -1,0 +1,4 @@
+pub mod Cutting
+pub mod Recurrence
+pub mod Table
+pub mod Costs

@@ -1,0 +1,5 @@
+pub mod Body
+pub mod Days
+pub mod Samples
+pub mod Tries
+pub mod Accepted

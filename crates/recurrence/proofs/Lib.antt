@@ -1,0 +1,3 @@
+pub mod Cell
+pub mod Weight
+pub mod Entries

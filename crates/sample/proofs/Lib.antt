@@ -1,0 +1,7 @@
+-- Facts on plain values that the functions' proofs cite. Another crate cites those of `Range` and `Promises`, as `Rattle.sample.proofs.Range`.
+mod Scaled
+mod Whole
+mod Product
+mod Nan
+pub mod Range
+pub mod Promises

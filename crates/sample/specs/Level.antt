@@ -1,0 +1,11 @@
+-- The range of a sample, and a sample in range as a natural number.
+use Prim.Native.Nat.{ℕ, _≤_}
+use lib.IntN.{ℤ, pos, natAbs, _+ℤ_}
+
+-- "Sample: a whole x from -1,000,000 to 1,000,000."
+abbrev pub InRange : ℤ → Type 0
+InRange x = natAbs x ≤ 1000000
+
+-- x as a level: x + 1,000,000, which is a natural number for every x in range.
+abbrev pub level : ℤ → ℕ
+level x = natAbs (x +ℤ pos 1000000)

@@ -1,0 +1,5 @@
+pub mod Level
+pub mod Judge
+pub mod Word
+pub mod Code
+pub mod Shares

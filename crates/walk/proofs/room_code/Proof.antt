@@ -1,0 +1,27 @@
+-- `walk::room_code` meets its contract. Assumes nothing.
+use Prim.Native.Nat.{_+_}
+use native.Mathlib.Nat.{mul-le-mul}
+use native.Mathlib.Omega.{arith}
+use borrow.Author.Needs.{needs}
+use Rattle.reply.proofs.Steps.{steps}
+use Rattle.walk.proofs.room_code.Statement.{statement}
+use Rattle.walk.proofs.room_code.Tie as tie
+
+add-if1 : tie.Need-add-if1
+add-if1 c = search needs
+
+mul-if1 : tie.Need-mul-if1
+mul-if1 c =
+    omega (arith, mul-le-mul {n₁ = c .args .d} {m₁ = c .args .n + 1} {n₂ = 12} {m₂ = 401} (omega arith) (omega arith))
+
+returns : tie.Need-returns
+returns c = search steps
+
+returns-2 : tie.Need-returns-2
+returns-2 c = search steps
+
+returns-3 : tie.Need-returns-3
+returns-3 c = search steps
+
+pub room-code-spec : {M : Type 1} → statement M
+room-code-spec = tie.close (tie.spec add-if1 mul-if1 returns returns-2 returns-3)
