@@ -1,0 +1,99 @@
+-- `report::put_cuts` meets its contract. The loop's invariant: the cuts of the segments 1 to i - 1 are put. Assumes nothing.
+use Prim.Native.Nat.{ℕ, suc, _+_, _-_, _*_, _≤_, _<_}
+use mathlib.Core.Path.{_≡_, refl, sym, ap, _∙_}
+use mathlib.Core.List.{List, []}
+use native.Mathlib.Omega.{arith}
+use lib.ListN.{length, getD}
+use lib.Seq.{slice, slice-empty, length-slice}
+use denote.Ref.{now}
+use Rattle.text.specs.Text.{Put}
+use Rattle.text.proofs.Pieces.{put-nothing, then, retell, put-length}
+use Rattle.report.specs.Lines.{cutsText}
+use Rattle.report.proofs.Lengths.{cuts-length}
+use Rattle.report.proofs.Pieces.{cuts-more}
+use Rattle.report.proofs.put_cuts.Statement.{statement}
+use Rattle.report.proofs.put_cuts.Tie as tie
+
+abbrev Inv-loop : tie.InvT-loop
+Inv-loop out₀ at body starts d next₀ i₀ out next i =
+    (1 ≤ i) × (i ≤ d) × Put out₀ at (cutsText body (slice 1 i starts)) out next
+
+abbrev μ-loop : tie.MeasureT-loop
+μ-loop out₀ at body starts d next₀ i₀ out next i = d - i
+
+loop-holds : tie.Need-loop-holds Inv-loop μ-loop
+loop-holds c =
+    let s = c .before .before .before in
+    (omega arith, omega arith, retell (sym (ap (cutsText (now (s .args .body))) (slice-empty 1 (now (s .args .starts))))) (put-nothing _ _))
+
+mul-put-cut : tie.Need-mul-put-cut Inv-loop μ-loop
+mul-put-cut c = omega arith
+
+shared-slice-read-put-cut : tie.Need-shared-slice-read-put-cut Inv-loop μ-loop
+shared-slice-read-put-cut c = omega arith
+
+put-cut-requires : tie.Need-put-cut-requires Inv-loop μ-loop
+put-cut-requires c κs =
+    let at = c .before .before .before in
+    let s = at .before .before .before .before in
+    let l = now (s .args .starts) in
+    omega (
+      arith,
+      at .loop .inv .2 .end,
+      cuts-length (now (s .args .body)) (slice 1 (at .loop .i) l),
+      length-slice 1 (at .loop .i) l (omega (arith, s .pre)),
+      s .pre,
+    )
+
+add-i : tie.Need-add-i Inv-loop μ-loop
+add-i c = omega (arith, c .before .before .before .before .before)
+
+loop-less : tie.Need-loop-less Inv-loop μ-loop
+loop-less c = omega (arith, c .before .before .before .before .before)
+
+loop-again : tie.Need-loop-again Inv-loop μ-loop
+loop-again c =
+    let p = c .before .before in
+    let in-loop = p .before .before .before in
+    let at = in-loop .before in
+    let s = at .before .before .before .before in (
+      omega (arith, in-loop),
+      omega (arith, in-loop),
+      retell (cuts-more (now (s .args .body)) (now (s .args .starts)) (at .loop .i) (at .loop .inv .0) (omega (arith, in-loop, s .pre)))
+          (then (at .loop .inv .2) (p .put-cut .ensures)),
+    )
+
+same-length : tie.Need-same-length Inv-loop μ-loop
+same-length c = put-length (c .before .loop .inv .2)
+
+returns : tie.Need-returns Inv-loop μ-loop
+returns c =
+    let at = c .before in
+    let s = at .before .before .before .before in
+    let e : at .loop .i ≡ s .args .d = omega arith in
+    let l = now (s .args .starts) in (
+      retell (ap (λ (i : ℕ). cutsText (now (s .args .body)) (slice 1 i l)) e) (at .loop .inv .2),
+      omega (
+        arith,
+        at .loop .inv .2 .end,
+        cuts-length (now (s .args .body)) (slice 1 (at .loop .i) l),
+        length-slice 1 (at .loop .i) l (omega (arith, s .pre)),
+        s .pre,
+      ),
+    )
+
+pub put-cuts-spec : {M : Type 1} → statement M
+put-cuts-spec =
+    tie.close
+    (tie.spec
+    Inv-loop
+    μ-loop
+    loop-holds
+    mul-put-cut
+    shared-slice-read-put-cut
+    put-cut-requires
+    add-i
+    loop-less
+    loop-again
+    same-length
+    returns)

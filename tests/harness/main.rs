@@ -1,0 +1,56 @@
+//! The comparing harness: puts cases drawn from a printed seed to the real C functions and to the
+//! real program `cuts`, and compares every reply, byte and line with the second program.
+//! Its last line is `N passed, M failed`, counting cases.
+
+mod chance;
+mod damage;
+mod difference;
+mod driver;
+mod edges;
+mod files;
+mod met;
+mod options;
+mod paper;
+mod peers;
+mod plan;
+mod printing;
+mod program;
+mod reading;
+mod records;
+mod relations;
+mod request;
+mod rng;
+mod shares;
+mod solving;
+mod summary;
+mod walking;
+mod workers;
+mod writing;
+
+use options::{Options, USAGE};
+use plan::Plan;
+
+fn main() {
+    let options = match Options::from(std::env::args().skip(1)) {
+        Some(options) => options,
+        None => {
+            eprintln!("usage: {}", USAGE);
+            std::process::exit(2);
+        }
+    };
+    let plan = Plan::whole();
+    let cases = chosen(&plan, &options);
+    println!("seed {}: {} cases of {}", options.seed, cases.len(), plan.total());
+    let found = workers::run(&plan, &cases, &options);
+    let failed = summary::print(&plan, &options, &found);
+    std::process::exit(i32::from(failed > 0));
+}
+
+/// The numbers of the cases that are asked for.
+fn chosen(plan: &Plan, options: &Options) -> Vec<usize> {
+    if let Some(case) = options.case {
+        return vec![case];
+    }
+    let wanted = |case: &usize| options.only.as_ref().map_or(true, |words| plan.find(*case).0.name.contains(words));
+    (0..plan.total()).step_by(options.every).filter(wanted).collect()
+}

@@ -1,0 +1,62 @@
+//! The harness's arguments.
+
+use std::path::PathBuf;
+
+/// What a run is asked for.
+pub struct Options {
+    pub driver: PathBuf,
+    pub program: PathBuf,
+    pub seed: u64,
+    /// Only this case.
+    pub case: Option<usize>,
+    /// Only families whose name has these words.
+    pub only: Option<String>,
+    /// Only each case whose number this divides.
+    pub every: usize,
+    /// Passed and failed checks made before, to be counted in the last line.
+    pub carried: (usize, usize),
+}
+
+pub const USAGE: &str =
+    "harness --driver PATH --cuts PATH [--seed S] [--case N] [--only WORDS] [--every K] [--carried P,F]";
+
+impl Options {
+    /// Whether all cases are asked for.
+    pub fn whole(&self) -> bool {
+        self.case.is_none() && self.only.is_none() && self.every == 1
+    }
+
+    pub fn from(arguments: impl Iterator<Item = String>) -> Option<Options> {
+        let mut options = Options {
+            driver: PathBuf::new(),
+            program: PathBuf::new(),
+            seed: 1,
+            case: None,
+            only: None,
+            every: 1,
+            carried: (0, 0),
+        };
+        let mut arguments = arguments;
+        while let Some(name) = arguments.next() {
+            options.set(&name, arguments.next()?)?;
+        }
+        Some(options)
+    }
+
+    fn set(&mut self, name: &str, value: String) -> Option<()> {
+        match name {
+            "--driver" => self.driver = PathBuf::from(value),
+            "--cuts" => self.program = PathBuf::from(value),
+            "--seed" => self.seed = value.parse().ok()?,
+            "--case" => self.case = Some(value.parse().ok()?),
+            "--only" => self.only = Some(value),
+            "--every" => self.every = value.parse().ok().filter(|&every| every > 0)?,
+            "--carried" => {
+                let (passed, failed) = value.split_once(',')?;
+                self.carried = (passed.parse().ok()?, failed.parse().ok()?);
+            }
+            _ => return None,
+        }
+        Some(())
+    }
+}
