@@ -23,11 +23,10 @@ use Rattle.record.specs.Body.{observations, judgedAt, wholeOf, samples}
 use Rattle.record.specs.Tries.{dayTries, sampleTries, dataTries}
 use Rattle.record.specs.Body.{dayAt}
 use Rattle.record.proofs.Body.{values-length}
-use Rattle.record.proofs.Samples.{samples-whole}
+use Rattle.record.proofs.Whole.{data-whole, samples-range}
 use Rattle.engine.specs.Solve.{costUnder, recordCost, shapeTries, totalTries, exceeds, solveReply}
 use Rattle.engine.proofs.Shape.{shaped}
 use Rattle.engine.proofs.Limit.{never-exceeds}
-use Rattle.engine.proofs.Levels.{samples-range}
 
 -- a sample list in range costs at most 4,096 · 10 ^ 12 for each observation, whatever the kernel's number
 cost-under-small : (k : Named) (xs : List ℤ) → All InRange xs → Within (costUnder k xs) 4096000000000000 1 0 (length xs)
@@ -35,19 +34,13 @@ cost-under-small Unknown xs p = λ s t a b c. omega arith
 cost-under-small (Known k) xs p = cost-small k xs p 1
 
 module _ (kind : ℕ) (body : List ℕ) where
-  pub data-whole : NoReason (dataTries kind body (observations body)) →
-      (i : ℕ) → i < observations body → judgedAt kind body i ≡ Whole (wholeOf (judgedAt kind body i))
-  data-whole h =
-      samples-whole (judgedAt kind body) (observations body)
-      (no-reason-both (dayTries (dayAt body) (observations body)) (sampleTries (judgedAt kind body) (observations body)) h .1)
-
   -- "12: a total of units would exceed 9,223,372,036,854,775,807": its reason never holds.
   pub total-never : (number d : ℕ) → observations body ≤ 400 → NoReason (dataTries kind body (observations body)) →
       exceeds (recordCost kind number body) d (observations body) ≡ false
   total-never number d few h =
       let n = values-length (λ i. wholeOf (judgedAt kind body i)) (observations body) in
       never-exceeds (recordCost kind number body) 4096000000000000 d (observations body)
-      (subst (Within (recordCost kind number body) 4096000000000000 1 0) n (cost-under-small (namedOf number) (samples kind body) (samples-range kind body (data-whole h))))
+      (subst (Within (recordCost kind number body) 4096000000000000 1 0) n (cost-under-small (namedOf number) (samples kind body) (samples-range kind body (data-whole kind body h))))
       (omega arith)
 
 module _ (kind number d : ℕ) (body : List ℕ) (costs starts : ℕ)

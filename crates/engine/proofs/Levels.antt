@@ -22,19 +22,11 @@ use Rattle.sample.specs.Code.{levelOf}
 use Rattle.sample.proofs.Range.{whole-in-range, level-le}
 use Rattle.record.specs.Body.{observations, judgedAt, wholeOf, levelNumber, valuesOf, samples}
 use Rattle.record.proofs.Body.{values-length, values-at}
+use Rattle.record.proofs.Whole.{sample-range, samples-range}
 use Rattle.recurrence.specs.Weight.{levelCost}
 use Rattle.engine.specs.Levels.{levelsOf}
 
 -- ---- lists of values
-all-more : {A : Type 0} (P : A → Type 0) (l : List A) (x : A) → All P l → P x → All P (l ++ (x ∷ []))
-all-more P [] x a p = (p, tt)
-all-more P (y ∷ l) x a p = (a .0, all-more P l x (a .1) p)
-
-pub all-values : {A : Type 0} (P : A → Type 0) (f : ℕ → A) (n : ℕ) → ((i : ℕ) → i < n → P (f i)) → All P (valuesOf f n)
-unfolding valuesOf
-all-values P f zero h = tt
-all-values P f (suc n) h = all-more P (valuesOf f n) (f n) (all-values P f n (λ i b. h i (omega arith))) (h n (omega arith))
-
 pub map-values : {A B : Type 0} (g : A → B) (f : ℕ → A) (n : ℕ) → map g (valuesOf f n) ≡ valuesOf (λ i. g (f i)) n
 unfolding valuesOf
 map-values g f zero = refl
@@ -42,13 +34,6 @@ map-values g f (suc n) = map-append g (valuesOf f n) (f n ∷ []) ∙ ap (_++ (g
 
 module _ (kind : ℕ) (body : List ℕ)
     (whole : (i : ℕ) → i < observations body → judgedAt kind body i ≡ Whole (wholeOf (judgedAt kind body i))) where
-  pub sample-range : (i : ℕ) → i < observations body → InRange (wholeOf (judgedAt kind body i))
-  unfolding judgedAt
-  sample-range i b = whole-in-range (sampleOf kind (num 8 body (12 * i + 4))) (wholeOf (judgedAt kind body i)) (whole i b)
-
-  pub samples-range : All InRange (samples kind body)
-  samples-range = all-values InRange (λ i. wholeOf (judgedAt kind body i)) (observations body) sample-range
-
   level-at : (i : ℕ) → i < observations body → levelNumber (levelOf (judgedAt kind body i)) ≡ getD (levelsOf kind body) i 0
   level-at i b =
       ap (λ (j : Judged). levelNumber (levelOf j)) (whole i b)
@@ -69,10 +54,10 @@ module _ (kind : ℕ) (body : List ℕ)
   pub levels-small : (i : ℕ) → i < observations body → getD (levelsOf kind body) i 0 ≤ 2000000
   levels-small i b =
       subst (λ (x : ℕ). x ≤ 2000000) (ap (λ (j : Judged). levelNumber (levelOf j)) (sym (whole i b)) ∙ level-at i b)
-      (level-le (wholeOf (judgedAt kind body i)) (sample-range i b))
+      (level-le (wholeOf (judgedAt kind body i)) (sample-range kind body whole i b))
 
   -- the costs agree on every segment
   pub costs-agree : (k : Kernel) → Agree (levelCost k (levelsOf kind body)) (cost (kernel k) (samples kind body)) 1 0 (observations body)
   costs-agree k s t _ _ upto =
-      sym (cost-level k (samples kind body) samples-range s t
+      sym (cost-level k (samples kind body) (samples-range kind body whole) s t
       (omega (arith, values-length (λ i. wholeOf (judgedAt kind body i)) (observations body))))

@@ -28,7 +28,7 @@ use Rattle.engine.specs.Levels.{levelsOf, Leveled}
 use Rattle.engine.proofs.Shape.{Shaped, shaped, coded-shape}
 use Rattle.engine.proofs.Levels.{costs-agree}
 use Rattle.engine.proofs.Tables.{costs-same, starts-same}
-use Rattle.engine.proofs.Judged.{data-whole}
+use Rattle.record.proofs.Whole.{data-whole}
 
 -- ---- a refusal leaves both tables as they were
 module _ (r : Reply) (kind number d : ℕ) (body xs : List ℕ) (refused : r .code ≡ 0 → ⊥) where

@@ -45,11 +45,13 @@ pub fn distance(k: Kernel, u: u64, v: u64) -> u64
     requires { ⌜ (u ≤ 2000000) × (v ≤ 2000000) ⌝ }
     ensures { λ r. ⌜ r ≡ dist k (far u v) ⌝ }
 {
-    let g = apart(u, v);
     match k {
-        Kernel::Linear => g * g,
-        Kernel::Spelling => { if g == 0 { 0 } else { 2 } }
-        Kernel::Energy => g,
+        Kernel::Linear => {
+            let g = apart(u, v);
+            g * g
+        }
+        Kernel::Spelling => { if u == v { 0 } else { 2 } }
+        Kernel::Energy => apart(u, v),
     }
 }
 

@@ -3,3 +3,4 @@ pub mod Days
 pub mod Samples
 pub mod Tries
 pub mod Accepted
+pub mod Whole

@@ -1,7 +1,6 @@
 -- Laws that the functions' proofs and the promises cite. Another crate cites those of `Stretch`, `Start` and `Promises`.
 mod Steps
 mod Clear
-mod Whole
 mod Sum
 mod Mean
 mod Codes

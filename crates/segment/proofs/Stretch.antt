@@ -18,7 +18,7 @@ use Rattle.record.proofs.Days.{days-rise}
 use Rattle.segment.specs.declared.Summary.{Summary}
 use Rattle.segment.specs.declared.Summed.{Summed}
 use Rattle.segment.specs.Summary.{stretchTries, summaryTries, summaryReply, SummaryAccepted, summaryOf, noSummary, summedOf}
-use Rattle.segment.proofs.Whole.{data-whole}
+use Rattle.record.proofs.Whole.{data-whole}
 use Rattle.segment.proofs.Clear.{both-clear, nowhere, count-clear, days-clear}
 
 pub coded-stretch : (first len n : ℕ) → Coded (stretchTries first len n)

@@ -62,13 +62,13 @@ returns-4 : tie.Need-returns-4
 returns-4 c =
     let l = c .before .before .before in
     let a = l .before .before .args in
-    step-high (startIn (now (a .starts)) (a .n)) (a .d) (a .end) (l .load .result) (l .load .ensures) (omega arith) (c .before .if3 .left) (c .if4 .taken)
+    step-high (startIn (now (a .starts)) (a .n)) (a .d) (a .end) (l .load .result) (l .load .ensures) (omega arith) (c .before .if3 .left) (omega arith)
 
 returns-5 : tie.Need-returns-5
 returns-5 c =
     let l = c .before .before .before in
     let a = l .before .before .args in
-    step-from (startIn (now (a .starts)) (a .n)) (a .d) (a .end) (l .load .result) (l .load .ensures) (omega arith) (c .before .if3 .left) (c .if4 .left)
+    step-from (startIn (now (a .starts)) (a .n)) (a .d) (a .end) (l .load .result) (l .load .ensures) (omega arith) (c .before .if3 .left) (omega arith)
 
 pub last-start-spec : {M : Type 1} → statement M
 last-start-spec =
