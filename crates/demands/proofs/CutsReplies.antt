@@ -14,7 +14,8 @@ use Rattle.reply.specs.Reply.{Try, firstOf, refusal, done}
 use Rattle.reply.proofs.Tries.{decided, hit, miss, nothing-tried}
 use Rattle.walk.specs.Walk.{startIn, walks}
 use Rattle.walk.specs.Answer.{roomTries, walkTries, cutsReply}
-use Rattle.demands.specs.Reasons.{NumbersFit, RoomFit, CutsFit, CutsRefused, cuts-numbers-refused, cuts-table-short, no-walk, among, cutsCodes}
+use Rattle.reply.specs.Codes.{among}
+use Rattle.demands.specs.Reasons.{NumbersFit, RoomFit, CutsFit, CutsRefused, cuts-numbers-refused, cuts-table-short, no-walk, cutsCodes}
 use Rattle.demands.proofs.Passing.{either, numbers-pass, numbers-give, numbers-covered, numbers-codes}
 
 module _ (starts : List ℕ) (n d number room : ℕ) where

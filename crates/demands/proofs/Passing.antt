@@ -14,8 +14,9 @@ use Rattle.reply.specs.Search.{firstAt, over}
 use Rattle.reply.proofs.Tries.{NoReason, decided, hit, miss, past}
 use Rattle.reply.proofs.Search.{first-from, first-holds, first-before}
 use Rattle.record.specs.Tries.{countTries, segmentTries, kernelTries}
-use Rattle.record.proofs.Accepted.{Counted, Segmented, Numbered}
-use Rattle.demands.specs.Reasons.{NumbersFit, NumbersRefused, no-days, many-days, count-unfit, count-exceeds, kernel-unknown, among}
+use Rattle.record.specs.Accepted.{Counted, Segmented, Numbered}
+use Rattle.reply.specs.Codes.{among}
+use Rattle.demands.specs.Reasons.{NumbersFit, NumbersRefused, no-days, many-days, count-unfit, count-exceeds, kernel-unknown}
 
 -- ---- tries
 pub never-both : (b : Bool) → b ≡ true → b ≡ false → ⊥

@@ -24,7 +24,8 @@ use Rattle.walk.specs.declared.Answer.{Answer}
 use Rattle.walk.specs.Answer.{cutsTries, cutsReply, answerOf, refusedAnswer, outAfter, carriedNumber}
 use Rattle.walk.proofs.Answers.{answer-refused, out-kept}
 use Rattle.demands.specs.Asked.{Asked, Accepted, replyTo, days, weight, costsLeft, startsLeft}
-use Rattle.demands.specs.Reasons.{Fit, SolveRefused, CutsFit, CutsRefused, among, solveCodes, cutsCodes, PlacedIn}
+use Rattle.reply.specs.Codes.{among}
+use Rattle.demands.specs.Reasons.{Fit, SolveRefused, CutsFit, CutsRefused, solveCodes, cutsCodes, PlacedIn}
 use Rattle.demands.proofs.Passing.{among-more, not-among}
 use Rattle.demands.proofs.Exactly.{refused-iff, accepted-iff}
 use Rattle.demands.proofs.SolveReplies as solves

@@ -26,7 +26,8 @@ use Rattle.record.proofs.Samples.{whole-is}
 use Rattle.engine.specs.Solve.{roomTries, totalTries, solveReply}
 use Rattle.engine.proofs.Judged.{total-never}
 use Rattle.demands.specs.Asked.{Asked, replyTo, days, weight}
-use Rattle.demands.specs.Reasons.{BodyFit, ShapeFit, Fit, SampleTried, RisingTo, WholeTo, NumbersFit, SolveRefused, kind-unknown, cut-short, numbers-refused, table-short, day-not-above, not-finite, out-of-range, not-whole, among, solveCodes, PlacedIn}
+use Rattle.reply.specs.Codes.{among}
+use Rattle.demands.specs.Reasons.{BodyFit, ShapeFit, Fit, SampleTried, RisingTo, WholeTo, NumbersFit, SolveRefused, kind-unknown, cut-short, numbers-refused, table-short, day-not-above, not-finite, out-of-range, not-whole, solveCodes, PlacedIn}
 use Rattle.demands.proofs.Passing.{either, never-both, HoldsNowhere, found-or-not, nowhere-passes, first-gives, numbers-pass, numbers-give, numbers-covered, numbers-codes}
 
 module _ (q : Asked) where

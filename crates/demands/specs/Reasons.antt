@@ -11,7 +11,7 @@ use lib.IntN.{ℤ}
 use Rattle.sample.specs.declared.Judged.the-variants.{Whole, NotFinite, OutOfRange, NotWhole}
 use Rattle.sample.specs.Level.{InRange}
 use Rattle.record.specs.Body.{dayAt, judgedAt}
-use Rattle.record.proofs.Accepted.{Counted, Segmented, Numbered}
+use Rattle.record.specs.Accepted.{Counted, Segmented, Numbered}
 use Rattle.walk.specs.Walk.{startIn, walks}
 use Rattle.demands.specs.Asked.{Asked, days}
 
@@ -112,11 +112,6 @@ module _ (starts : List ℕ) (n d number room : ℕ) where
     no-walk : RoomFit → walks (startIn starts n) (d - 1) n ≡ false → CutsRefused 13 0
 
 -- ---- the numbers of the replies
--- c is one of the list's numbers
-unfoldable pub among : ℕ → List ℕ → Bool
-among c [] = false
-among c (x ∷ xs) = eqb c x || among c xs
-
 -- the codes of the refusals of a solve, and of reading cuts; "0: done"
 abbrev pub solveCodes : List ℕ
 solveCodes = 24 ∷ 3 ∷ 1 ∷ 2 ∷ 4 ∷ 5 ∷ 6 ∷ 7 ∷ 8 ∷ 9 ∷ 10 ∷ 11 ∷ []

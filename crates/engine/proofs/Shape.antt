@@ -7,7 +7,8 @@ use Rattle.reply.specs.Reply.{Try}
 use Rattle.reply.proofs.Tries.{Coded, NoReason, coded-both, no-reason-both}
 use Rattle.record.specs.Tries.{bodyTries, segmentTries, kernelTries}
 use Rattle.record.proofs.Tries.{coded-body, coded-segments, coded-kernel}
-use Rattle.record.proofs.Accepted.{Bodied, bodied, Segmented, segmented, Numbered, numbered}
+use Rattle.record.specs.Accepted.{Bodied, Segmented, Numbered}
+use Rattle.record.proofs.Accepted.{bodied, segmented, numbered}
 use Rattle.engine.specs.Solve.{roomTries, shapeTries}
 
 module _ (kind bytes d number costs starts : ℕ) where

@@ -8,6 +8,7 @@ use borrow.Author.Tests.{ltb-false, eqb-true, eqb-false, not-false}
 use Rattle.reply.specs.declared.Reply.{Reply}
 use Rattle.reply.specs.Reply.{Try, firstOf}
 use Rattle.reply.proofs.Tries.{Coded, NoReason, no-reason}
+use Rattle.record.specs.Accepted.{Counted, Bodied, Segmented, Numbered}
 use Rattle.record.specs.Tries.{countTries, bodyTries, segmentTries, kernelTries}
 use Rattle.record.proofs.Tries.{coded-count, coded-body, coded-segments, coded-kernel}
 
@@ -15,20 +16,11 @@ use Rattle.record.proofs.Tries.{coded-count, coded-body, coded-segments
 pub passed : (ts : List Try) (r : Reply) → Coded ts → r ≡ firstOf ts → r .code ≡ 0 → NoReason ts
 passed ts r c e z = no-reason ts c (ap (λ (x : Reply). x .code) (sym e) ∙ z)
 
-pub record Counted (n : ℕ) : Type 0 where
-  pub some-days : 1 ≤ n
-  pub few-days : n ≤ 400
-
 pub counted : (n : ℕ) → NoReason (countTries n) → Counted n
 counted n h = record {
   some-days = (let no : n ≡ 0 → ⊥ = eqb-false n 0 (h .0) in omega arith);
   few-days = ltb-false 400 n (h .1 .0);
 }
-
-pub record Bodied (kind bytes : ℕ) : Type 0 where
-  pub kind-known : kind ≤ 1
-  pub whole-body : bytes % 12 ≡ 0
-  pub days : Counted (bytes / 12)
 
 pub bodied : (kind bytes : ℕ) → NoReason (bodyTries kind bytes) → Bodied kind bytes
 bodied kind bytes h = record {
@@ -37,21 +29,12 @@ bodied kind bytes h = record {
   days = counted (bytes / 12) (h .1 .1);
 }
 
-pub record Segmented (d n : ℕ) : Type 0 where
-  pub some-segments : 1 ≤ d
-  pub few-segments : d ≤ 12
-  pub fits-days : d ≤ n
-
 pub segmented : (d n : ℕ) → NoReason (segmentTries d n) → Segmented d n
 segmented d n h = record {
   some-segments = (let no : d ≡ 0 → ⊥ = eqb-false d 0 (h .0) in omega arith);
   few-segments = ltb-false 12 d (h .1 .0);
   fits-days = ltb-false n d (h .1 .1 .0);
 }
-
-pub record Numbered (k : ℕ) : Type 0 where
-  pub some-kernel : 1 ≤ k
-  pub known-kernel : k ≤ 3
 
 pub numbered : (k : ℕ) → NoReason (kernelTries k) → Numbered k
 numbered k h = record {

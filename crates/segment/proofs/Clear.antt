@@ -11,7 +11,7 @@ use Rattle.reply.specs.Search.{firstAt, over}
 use Rattle.reply.proofs.Tries.{NoReason, decided}
 use Rattle.reply.proofs.Search.{first-from, over-holds}
 use Rattle.record.specs.Tries.{countTries, falls}
-use Rattle.record.proofs.Accepted.{Counted}
+use Rattle.record.specs.Accepted.{Counted}
 
 pub both-clear : (ts us : List Try) → NoReason ts → NoReason us → NoReason (ts ++ us)
 both-clear [] us a b = b

@@ -16,7 +16,8 @@ use Rattle.sample.specs.declared.Judged.the-variants.{Whole, NotFinite, OutOfRa
 use Rattle.sample.specs.Code.{codeOf}
 use Rattle.record.specs.Body.{observations, dayAt, judgedAt}
 use Rattle.record.specs.Tries.{countTries, bodyTries, kernelTries, falls, refuses, dayTries, sampleTries, dataTries}
-use Rattle.segment.specs.Codes.{among, summaryCodes, dateCodes, Reported}
+use Rattle.reply.specs.Codes.{among}
+use Rattle.segment.specs.Codes.{summaryCodes, dateCodes, Reported}
 use Rattle.segment.specs.Summary.{stretchTries, summaryTries}
 use Rattle.segment.specs.Date.{dayOf, startTries, dateTries}
 

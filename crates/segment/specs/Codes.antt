@@ -1,15 +1,10 @@
 -- The numbers of the replies, and their places.
 use Prim.Native.Nat.{ℕ, _≤_, _<_}
 use mathlib.Core.Path.{_≡_}
-use mathlib.Core.Bool.{Bool, true, false, _||_}
+use mathlib.Core.Bool.{true}
 use mathlib.Core.Logic.{_⊎_}
 use mathlib.Core.List.{List, [], _∷_}
-use lib.Dec.{eqb}
-
--- c is one of the list's numbers
-unfoldable pub among : ℕ → List ℕ → Bool
-among c [] = false
-among c (x ∷ xs) = eqb c x || among c xs
+use Rattle.reply.specs.Codes.{among}
 
 -- "0: done", and the codes of the refusals of a summary and of a change date
 abbrev pub summaryCodes : List ℕ

@@ -7,7 +7,7 @@ use lib.ListN.{length, getD}
 use Rattle.reply.specs.declared.Reply.{Reply}
 use Rattle.reply.specs.Reply.{Try, try, firstOf}
 use Rattle.record.specs.Tries.{countTries, dayTries}
-use Rattle.record.proofs.Accepted.{Counted}
+use Rattle.record.specs.Accepted.{Counted}
 use Rattle.segment.specs.declared.Dated.{Dated}
 
 -- the day of an index

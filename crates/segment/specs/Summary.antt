@@ -14,7 +14,7 @@ use Rattle.reply.specs.declared.Reply.{Reply}
 use Rattle.reply.specs.Reply.{Try, try, firstOf}
 use Rattle.record.specs.Body.{observations, dayAt, judgedAt, wholeOf, samples}
 use Rattle.record.specs.Tries.{bodyTries, kernelTries, dataTries}
-use Rattle.record.proofs.Accepted.{Bodied, Numbered}
+use Rattle.record.specs.Accepted.{Bodied, Numbered}
 use Rattle.segment.specs.declared.Summary.{Summary}
 use Rattle.segment.specs.declared.Summed.{Summed}
 

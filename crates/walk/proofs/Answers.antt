@@ -16,7 +16,8 @@ use Rattle.reply.specs.Reply.{Try, firstOf, refusal, done}
 use Rattle.reply.proofs.Tries.{Coded, NoReason, coded-both, no-reason, no-reason-both, past, hit, miss, nothing-tried, stop}
 use Rattle.record.specs.Tries.{countTries, segmentTries, kernelTries}
 use Rattle.record.proofs.Tries.{coded-count, coded-segments, coded-kernel}
-use Rattle.record.proofs.Accepted.{Counted, counted, Segmented, segmented, Numbered, numbered}
+use Rattle.record.specs.Accepted.{Counted, Segmented, Numbered}
+use Rattle.record.proofs.Accepted.{counted, segmented, numbered}
 use Rattle.walk.specs.declared.Carried.{Carried}
 use Rattle.walk.specs.declared.Carried.the-variants.{NoKernel, Of}
 use Rattle.walk.specs.declared.Answer.{Answer}
