@@ -55,7 +55,7 @@ module _ (w : ℕ → ℕ → ℕ) (l p d t : ℕ) where
         let count : suc (length (chosen w l p (d - 1) t)) ≡ d = omega (arith, chosen-length w l p (d - 1) t) in
         rw count at (to-cutting l p (chosen w l p (d - 1) t) t (chosen-cuts w l p (d - 1) t (omega (arith, size d l h))))
 
-    -- "the choice among equals exactly as 01 says it (last segment earliest, then the one before it, and so on) ..
+    -- "the choice among equals exactly as the rules say it (last segment earliest, then the one before it, and so on) ..
     pub choice : Choice w l p d t (chosenIn w l p d t)
     choice =
         let segments : suc (d - 1) ≡ d = omega arith in

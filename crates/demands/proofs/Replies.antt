@@ -65,7 +65,7 @@ module _ (q : Asked) where
       ⊎-elim (λ f. inl (solves.fit-done q f))
       (λ w. inr (rw (solves.reason-gives q (w .0) (w .1 .0) (w .1 .1)) (w .1 .1))) (solves.covered q)
 
-  -- "a numbered reply": one of 01's numbers, ..
+  -- "a numbered reply": one of the rules' numbers, ..
   pub solve-numbered : among (replyTo q .code) (0 ∷ solveCodes) ≡ true
   unfolding among
   solve-numbered = ⊎-elim (λ e. rw e) (λ w. among-more (replyTo q .code) 0 solveCodes (solves.codes q _ _ w)) reply-is

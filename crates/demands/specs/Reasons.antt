@@ -1,11 +1,10 @@
--- Why a call is refused: each of 01's reasons with its code and its place, where all that is tried before it is fit. "A refusal is given only
+-- Why a call is refused: each of the rules' reasons with its code and its place, where all that is tried before it is fit. "A refusal is given only
 -- where its stated reason holds; where none does, the reply is 0." "Place is 0 unless stated, and every place counts from 0."
 use Prim.Native.Nat.{ℕ, _+_, _-_, _*_, _/_, _%_, _≤_, _<_}
 use mathlib.Core.Path.{_≡_}
-use mathlib.Core.Bool.{Bool, true, false, _||_}
+use mathlib.Core.Bool.{true, false}
 use mathlib.Core.Logic.{_⊎_}
 use mathlib.Core.List.{List, [], _∷_}
-use lib.Dec.{eqb}
 use lib.ListN.{length}
 use lib.IntN.{ℤ}
 use Rattle.sample.specs.declared.Judged.the-variants.{Whole, NotFinite, OutOfRange, NotWhole}

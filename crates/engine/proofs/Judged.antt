@@ -1,8 +1,8 @@
 -- A record that passes every try but the last: the last does not hold either, and what the record then is. Assumes nothing.
-use Prim.Native.Nat.{ℕ, _+_, _*_, _/_, _≤_, _<_}
-use mathlib.Core.Path.{_≡_, refl, sym, ap, subst, _∙_}
+use Prim.Native.Nat.{ℕ, _≤_}
+use mathlib.Core.Path.{_≡_, sym, ap, subst, _∙_}
 use mathlib.Core.Bool.{false, cond}
-use mathlib.Core.List.{List, [], _∷_, _++_}
+use mathlib.Core.List.{List, []}
 use native.Mathlib.Omega.{arith}
 use lib.Dec.{ltb}
 use lib.ListN.{length}
@@ -14,17 +14,15 @@ use Rattle.kernel.specs.declared.Named.the-variants.{Unknown, Known}
 use Rattle.kernel.specs.Kernel.{namedOf}
 use Rattle.kernel.specs.Pairs.{All}
 use Rattle.kernel.proofs.Promises.{cost-small}
-use Rattle.sample.specs.declared.Judged.the-variants.{Whole}
 use Rattle.sample.specs.Level.{InRange}
 use Rattle.reply.specs.declared.Reply.{Reply}
-use Rattle.reply.specs.Reply.{refusal, firstOf, done}
-use Rattle.reply.proofs.Tries.{NoReason, no-reason-both, nothing-tried, miss, past}
+use Rattle.reply.specs.Reply.{refusal}
+use Rattle.reply.proofs.Tries.{NoReason, nothing-tried, miss, past}
 use Rattle.record.specs.Body.{observations, judgedAt, wholeOf, samples}
-use Rattle.record.specs.Tries.{dayTries, sampleTries, dataTries}
-use Rattle.record.specs.Body.{dayAt}
+use Rattle.record.specs.Tries.{dataTries}
 use Rattle.record.proofs.Body.{values-length}
 use Rattle.record.proofs.Whole.{data-whole, samples-range}
-use Rattle.engine.specs.Solve.{costUnder, recordCost, shapeTries, totalTries, exceeds, solveReply}
+use Rattle.engine.specs.Solve.{costUnder, recordCost, shapeTries, exceeds, solveReply}
 use Rattle.engine.proofs.Shape.{shaped}
 use Rattle.engine.proofs.Limit.{never-exceeds}
 

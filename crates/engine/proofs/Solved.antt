@@ -1,11 +1,9 @@
 -- The tables that a solve leaves: as they were after a refusal, and filled by the record's costs where the record is accepted.
 -- Assumes nothing.
-use Prim.Native.Nat.{ℕ, _+_, _*_, _/_, _≤_, _<_}
-use mathlib.Core.Path.{_≡_, refl, sym, ap, _∙_}
-use mathlib.Core.Bool.{cond}
+use Prim.Native.Nat.{ℕ, _+_}
+use mathlib.Core.Path.{_≡_, refl, _∙_}
 use mathlib.Core.List.{List, _++_}
 use native.Mathlib.Omega.{arith}
-use lib.Dec.{eqb}
 use lib.ListN.{length}
 use borrow.Author.Tests.{eq-eqb, ne-eqb}
 use Rattle.table.specs.Fill.{fill}
@@ -17,7 +15,6 @@ use Rattle.kernel.specs.declared.Named.the-variants.{Known}
 use Rattle.kernel.specs.Kernel.{namedOf}
 use Rattle.kernel.proofs.Number.{known-number}
 use Rattle.reply.specs.declared.Reply.{Reply}
-use Rattle.reply.specs.Reply.{firstOf}
 use Rattle.reply.proofs.Tries.{Coded, NoReason, no-reason, no-reason-both, coded-both}
 use Rattle.record.specs.Body.{observations, samples}
 use Rattle.record.specs.Tries.{dataTries}

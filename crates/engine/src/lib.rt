@@ -1,16 +1,15 @@
 // Solve: a lent record is judged, and where it is accepted both lent tables are filled.
 ghost use mathlib.Core.Path.{_≡_};
-ghost use Prim.Native.Nat.{ℕ, _+_, _*_, _/_, _≤_, _<_};
+ghost use Prim.Native.Nat.{_+_, _*_, _/_, _≤_, _<_};
 ghost use mathlib.Core.Bool.{cond};
 ghost use lib.Dec.{ltb};
-ghost use lib.ListN.{length, getD};
+ghost use lib.ListN.{length};
 ghost use Rattle.table.specs.Fill.{fill};
 ghost use Rattle.cutting.specs.Table.{costAt, startAt};
 ghost use Rattle.reply.specs.Reply.{refusal, firstOf};
-ghost use Rattle.sample.specs.Code.{levelOf};
-ghost use Rattle.record.specs.Body.{observations, judgedAt, levelNumber};
+ghost use Rattle.record.specs.Body.{observations};
 ghost use Rattle.recurrence.specs.Weight.{levelCost};
-ghost use Rattle.engine.specs.Solve.{roomTries, shapeTries, solveTries, solveReply, costsAfter, startsAfter};
+ghost use Rattle.engine.specs.Solve.{roomTries, shapeTries, solveReply, costsAfter, startsAfter};
 ghost use Rattle.engine.specs.Levels.{levelsOf, Leveled};
 use kernel::Kernel;
 use kernel::Named;

@@ -1,4 +1,4 @@
--- Several channels (request A2): a sample is the list of its channels' numbers, and the kernel is the sum of the
+-- Several channels: a sample is the list of its channels' numbers, and the kernel is the sum of the
 -- channels' kernels. It is lawful and it splits, over any number of channels, so every theorem on a lawful kernel holds
 -- of it. Assumes nothing.
 use mathlib.Core.Path.{_≡_, refl, ap₂}

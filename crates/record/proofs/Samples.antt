@@ -1,10 +1,9 @@
 -- The turns of a loop that tries samples for 9, 10 and 11, and what samples without those faults are. Over any samples, by their index.
 -- Assumes nothing.
-use Prim.Native.Nat.{ℕ, suc, _+_, _-_, _≤_, _<_}
+use Prim.Native.Nat.{ℕ, _+_, _-_, _≤_, _<_}
 use mathlib.Core.Path.{_≡_, refl, sym, ap, subst, _∙_}
-use mathlib.Core.Bool.{Bool, true, false, not}
+use mathlib.Core.Bool.{true, false}
 use native.Mathlib.Omega.{arith}
-use lib.IntN.{ℤ, pos}
 use Rattle.reply.specs.Reply.{firstOf, refusal, done}
 use Rattle.reply.specs.Search.{firstAt}
 use Rattle.reply.proofs.Tries.{NoReason, nothing-tried}

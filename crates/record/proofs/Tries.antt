@@ -1,10 +1,9 @@
 -- Every try of a record's lists gives a code other than 0 where its reason holds. Assumes nothing.
 use Prim.Native.Nat.{ℕ, _-_, _/_}
 use mathlib.Core.Path.{_≡_, sym, ap, _∙_}
-use mathlib.Core.Bool.{Bool, true, false, not}
+use mathlib.Core.Bool.{true, false, not}
 use mathlib.Core.List.{List}
 use native.Mathlib.Omega.{arith}
-use lib.Dec.{eqb}
 use borrow.Author.Tests.{eq-eqb}
 use Rattle.reply.specs.Search.{firstAt}
 use Rattle.reply.proofs.Tries.{Coded, coded-both}

@@ -1,16 +1,15 @@
 -- The running sums: how a tail grows, that the tails of a segment's observations sum to its R, and how large they get. Assumes nothing.
 use Prim.Native.Nat.{ℕ, zero, suc, _+_, _-_, _*_, _≤_, _<_}
-use native.Mathlib.Nat.{mul-le-mul-left, mul-le-mul-right, div-le-of-le-mul}
+use native.Mathlib.Nat.{div-le-of-le-mul}
 use native.Mathlib.Numerals.{add-one}
 use native.Mathlib.Omega.{arith}
-use mathlib.Core.Path.{_≡_, refl, sym, _∙_, ap, ap₂, subst}
+use mathlib.Core.Path.{_≡_, sym, _∙_, ap, ap₂, subst}
 use mathlib.Core.List.{List, [], _∷_}
 use lib.ListN.{length, getD, length-take, drop-of-length-le, take}
-use lib.Seq.{slice, slice-cons, length-slice, getD-take}
+use lib.Seq.{slice, slice-cons, length-slice}
 use Rattle.kernel.specs.declared.Kernel.{Kernel}
-use Rattle.kernel.specs.Kernel.{far, dist}
+use Rattle.kernel.specs.Kernel.{far}
 use Rattle.kernel.specs.Pairs.{sum, pairs, All}
-use Rattle.kernel.specs.Cost.{unitsOf}
 use Rattle.kernel.proofs.Slices.{sum-back, pairs-front, all-slice}
 use Rattle.kernel.proofs.Limits.{sum-le}
 use Rattle.kernel.proofs.Level.{dist-le}

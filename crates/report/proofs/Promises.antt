@@ -1,18 +1,13 @@
 -- What is promised of the lines. Assumes nothing.
 use Prim.Native.Nat.{ℕ, _<_, _≤_}
-use mathlib.Core.Path.{_≡_, refl, sym, ap, _∙_}
-use mathlib.Core.List.{List, [], _∷_, _++_}
+use mathlib.Core.Path.{_≡_, refl}
+use mathlib.Core.List.{List}
 use lib.ListN.{length, take, drop}
 use lib.Seq.{take-at, drop-at}
-use native.Mathlib.Omega.{arith}
 use borrow.Author.Tests.{lt-ltb, le-ltb}
 use Rattle.file.specs.Layout.{countIn, entryAt}
 use Rattle.file.specs.File.{readReply, bodyOf}
-use Rattle.file.specs.Example.{example}
-use Rattle.reply.specs.Reply.{refusal}
-use Rattle.text.specs.Text.{digits}
 use Rattle.report.specs.declared.Written.the-variants.{Bytes, TooShort}
-use Rattle.report.specs.Lines.{fileText}
 use Rattle.report.specs.Terms.{termText}
 use Rattle.report.specs.Written.{writtenOf, outAfter}
 

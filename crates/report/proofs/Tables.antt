@@ -1,12 +1,12 @@
 -- The lines that are read off the tables that a solve leaves are the term's. Assumes nothing.
-use Prim.Native.Nat.{ℕ, zero, suc, _+_, _-_, _*_, _≤_, _<_}
-use mathlib.Core.Path.{_≡_, refl, sym, ap, ap₂, subst, _∙_}
+use Prim.Native.Nat.{ℕ, zero, suc, _+_, _-_, _*_, _≤_}
+use mathlib.Core.Path.{_≡_, refl, ap, ap₂, _∙_}
 use mathlib.Core.Bool.{Bool, true, false, cond}
-use mathlib.Core.List.{List, [], _∷_, _++_}
+use mathlib.Core.List.{List, [], _++_}
 use native.Mathlib.Numerals.{add-one}
 use native.Mathlib.Omega.{arith}
 use lib.Dec.{eqb}
-use lib.ListN.{length, take, drop, replicate, length-set, length-append}
+use lib.ListN.{length, drop, replicate, length-set}
 use lib.Seq.{slice, take-at}
 use Rattle.table.specs.Fill.{entry, cell}
 use Rattle.cutting.specs.Recurrence.{leastIn, chosenIn}

@@ -1,5 +1,5 @@
 -- The lines of one term, by the term number, the kernel, the sample kind, Dmax and the body alone.
-use Prim.Native.Nat.{ℕ, zero, suc, _-_, _+_, _*_}
+use Prim.Native.Nat.{ℕ, zero, suc, _-_, _+_}
 use mathlib.Core.Bool.{cond}
 use mathlib.Core.List.{List, [], _∷_, _++_}
 use lib.Dec.{leb, eqb}
@@ -42,8 +42,11 @@ dateAt body s =
     cond (eqb s 0) 0 (cond (leb (observations body) s) 0 (midpointOf (dayAt body (s - 1)) (dayAt body s)))
 
 -- "for each segment after the first its first index, a colon and its change date", each behind a space (32); 58 is the colon
+abbrev pub pairText : ℕ → ℕ → List ℕ
+pairText index date = (32 ∷ []) ++ (decimal index ++ ((58 ∷ []) ++ decimal date))
+
 abbrev pub cutText : List ℕ → ℕ → List ℕ
-cutText body s = (32 ∷ []) ++ (decimal s ++ ((58 ∷ []) ++ decimal (dateAt body s)))
+cutText body s = pairText s (dateAt body s)
 
 abbrev pub cutsText : List ℕ → List ℕ → List ℕ
 cutsText body [] = []

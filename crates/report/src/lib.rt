@@ -1,12 +1,12 @@
 // The lines of one term, as the program prints them, written into a lent buffer.
 ghost use mathlib.Core.Path.{_≡_};
-ghost use Prim.Native.Nat.{_+_, _*_, _/_, _^_, _≤_, _<_};
+ghost use Prim.Native.Nat.{_+_, _*_, _/_, _≤_, _<_};
 ghost use lib.ListN.{length, take};
 ghost use lib.Seq.{slice};
 ghost use Rattle.file.specs.Layout.{countIn};
 ghost use Rattle.file.specs.File.{readReply};
 ghost use Rattle.text.specs.Text.{Put};
-ghost use Rattle.report.specs.Lines.{dateAt, replyText, headText, fileText, cutText, cutsText, lineText, linesOf, costBytes, startBytes};
+ghost use Rattle.report.specs.Lines.{dateAt, replyText, headText, fileText, pairText, cutsText, lineText, linesOf, costBytes, startBytes};
 ghost use Rattle.report.specs.Tables.{tableLines};
 ghost use Rattle.report.specs.Terms.{termText};
 ghost use Rattle.report.specs.Written.{writtenOf, outAfter};
@@ -58,15 +58,14 @@ fn put_head(out: &mut [u8], term: u64, r: Reply) -> usize
 }
 
 // One cut: a space, the segment's first index, a colon and its change date.
-fn put_cut(out: &mut [u8], at: usize, body: &[u8], s: usize) -> usize
+fn put_cut(out: &mut [u8], at: usize, index: u64, date: u64) -> usize
     requires { ⌜ at < 10000 ⌝ }
-    ensures { λ next. ⌜ Put (now (out .entry)) at (cutText (now (body .entry)) s) (now (out .exit)) next ⌝ }
+    ensures { λ next. ⌜ Put (now (out .entry)) at (pairText index date) (now (out .exit)) next ⌝ }
 {
-    let date = date_at(body, Index(s));
     let number = text::put_byte(out, at, 32);
-    let colon = text::put_number(out, number, s as u64);
+    let colon = text::put_number(out, number, index);
     let day = text::put_byte(out, colon, 58);
-    text::put_number(out, day, date.0 as u64)
+    text::put_number(out, day, date)
 }
 
 // The cuts of a line: those of all segments but the first.
@@ -78,7 +77,9 @@ fn put_cuts(out: &mut [u8], at: usize, body: &[u8], starts: &[u64], d: usize) ->
     let mut next = at;
     let mut i = 1;
     while i < d {
-        next = put_cut(out, next, body, starts[i] as usize);
+        let s = starts[i];
+        let date = date_at(body, Index(s as usize));
+        next = put_cut(out, next, s, date.0 as u64);
         i += 1;
     }
     next

@@ -1,7 +1,6 @@
 // Text in a lent buffer: bytes, words and decimal numbers, one behind the other. What passes the buffer's end is counted and not written.
-ghost use mathlib.Core.Path.{_≡_};
 ghost use mathlib.Core.List.{[], _∷_};
-ghost use Prim.Native.Nat.{_+_, _*_, _^_, _≤_, _<_};
+ghost use Prim.Native.Nat.{_+_, _^_, _≤_, _<_};
 ghost use lib.ListN.{length};
 ghost use Rattle.text.specs.Text.{Put, digits, decimal};
 

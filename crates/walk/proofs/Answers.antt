@@ -1,10 +1,9 @@
 -- The answer for each way that code takes: refused by a number or a length, no walk, and a walk. Assumes nothing.
 use Prim.Native.Nat.{ℕ, _+_, _-_, _*_, _/_, _≤_}
-use mathlib.Core.Path.{_≡_, refl, sym, ap, ap₂, _∙_}
-use mathlib.Core.Bool.{true, false, not, cond}
-use mathlib.Core.List.{List, [], _∷_, _++_}
+use mathlib.Core.Path.{_≡_, sym, ap, _∙_}
+use mathlib.Core.Bool.{true, false, not}
+use mathlib.Core.List.{List, [], _++_}
 use native.Mathlib.Omega.{arith}
-use lib.Dec.{eqb}
 use lib.ListN.{length}
 use borrow.Author.Tests.{eq-eqb, ne-eqb, ltb-false}
 use Rattle.kernel.specs.declared.Kernel.{Kernel}
@@ -18,11 +17,10 @@ use Rattle.record.specs.Tries.{countTries, segmentTries, kernelTries}
 use Rattle.record.proofs.Tries.{coded-count, coded-segments, coded-kernel}
 use Rattle.record.specs.Accepted.{Counted, Segmented, Numbered}
 use Rattle.record.proofs.Accepted.{counted, segmented, numbered}
-use Rattle.walk.specs.declared.Carried.{Carried}
-use Rattle.walk.specs.declared.Carried.the-variants.{NoKernel, Of}
+use Rattle.walk.specs.declared.Carried.the-variants.{Of}
 use Rattle.walk.specs.declared.Answer.{Answer}
-use Rattle.walk.specs.Walk.{startIn, walks, met, zeros}
-use Rattle.walk.specs.Answer.{roomTries, shapeTries, walkTries, cutsTries, cutsReply, carries, refusedAnswer, answerFor, answerOf, rowOf, outAfter}
+use Rattle.walk.specs.Walk.{startIn, walks, met}
+use Rattle.walk.specs.Answer.{roomTries, shapeTries, walkTries, cutsTries, cutsReply, refusedAnswer, answerFor, answerOf, rowOf, outAfter}
 
 module _ (n d number bytes room : ℕ) where
   -- what numbers and lengths that pass are

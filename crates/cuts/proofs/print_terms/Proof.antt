@@ -1,6 +1,5 @@
 -- `cuts::print_terms` meets its contract: each i is an entry of the accepted file. Assumes nothing.
 use Prim.Native.Nat.{_-_, _≤_}
-use mathlib.Core.Path.{_≡_, sym}
 use native.Mathlib.Omega.{arith}
 use denote.Ref.{now}
 use borrow.Author.Needs.{needs}

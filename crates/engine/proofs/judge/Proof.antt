@@ -1,7 +1,7 @@
 -- `engine::judge` meets its contract: the tries on numbers and lengths, those on the observations, and then 12, whose reason never holds.
 -- Assumes nothing.
 use Prim.Native.Nat.{_/_}
-use mathlib.Core.Path.{_≡_, _∙_}
+use mathlib.Core.Path.{_∙_}
 use lib.ListN.{length}
 use denote.Ref.{now}
 use borrow.Author.Needs.{needs}

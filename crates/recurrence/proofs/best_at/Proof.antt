@@ -1,9 +1,8 @@
 -- `recurrence::best_at` meets its contract: the three kinds of entry. Assumes nothing.
 use borrow.Author.Needs.{needs}
-use Prim.Native.Nat.{ℕ, suc, _≤_, _<_, _-_, _+_, _*_}
+use Prim.Native.Nat.{_-_, _+_}
 use native.Mathlib.Nat.{mul-le-mul}
 use native.Mathlib.Omega.{arith}
-use mathlib.Core.Path.{_≡_, sym, _∙_}
 use Rattle.table.proofs.Fill.{cell-below}
 use Rattle.recurrence.proofs.Cell.{no-cutting, one-segment, more-segments}
 use Rattle.recurrence.proofs.best_at.Statement.{statement}

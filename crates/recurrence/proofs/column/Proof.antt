@@ -1,5 +1,5 @@
 -- `recurrence::column` meets its contract. The loop's invariant: the rows below d of column t are filled, and nothing else has changed. Assumes nothing.
-use Prim.Native.Nat.{ℕ, suc, _≤_, _<_, _-_, _+_, _*_}
+use Prim.Native.Nat.{_≤_, _<_, _-_, _+_, _*_}
 use native.Mathlib.Nat.{mul-le-mul}
 use native.Mathlib.Omega.{arith}
 use mathlib.Core.Path.{_≡_, sym, _∙_, ap}

@@ -1,7 +1,7 @@
 -- `recurrence::grow` meets its contract. The loop's invariant: the tails below s have sample t, and those from s on have it not yet. Assumes nothing.
-use Prim.Native.Nat.{ℕ, suc, _≤_, _<_, _-_, _+_, _*_}
+use Prim.Native.Nat.{ℕ, _≤_, _<_, _-_, _+_}
 use native.Mathlib.Omega.{arith}
-use mathlib.Core.Path.{_≡_, refl, sym, _∙_, ap}
+use mathlib.Core.Path.{_≡_, refl, sym, _∙_}
 use lib.ListN.{length, getD, length-set}
 use lib.Seq.{getD-set-other}
 use denote.Ref.{now}

@@ -1,5 +1,5 @@
 -- `recurrence::least` meets its contract. The loop's invariant: start is the earliest least of the starts tried, lo .. s - 1. Assumes nothing.
-use Prim.Native.Nat.{ℕ, suc, _≤_, _<_, _-_, _+_, _*_, _^_}
+use Prim.Native.Nat.{_≤_, _<_, _-_}
 use native.Mathlib.Omega.{arith}
 use mathlib.Core.Path.{_≡_, refl, _∙_, ap}
 use denote.Ref.{now}

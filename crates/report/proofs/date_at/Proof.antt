@@ -1,7 +1,5 @@
 -- `report::date_at` meets its contract. Assumes nothing.
-use Prim.Native.Nat.{_/_}
-use mathlib.Core.Path.{_≡_, ap₂, _∙_}
-use native.Mathlib.Omega.{arith}
+use mathlib.Core.Path.{ap₂, _∙_}
 use borrow.Author.Needs.{needs}
 use borrow.Author.Tests.{eq-eqb, ne-eqb, le-leb, lt-leb}
 use Rattle.segment.specs.Date.{midpointOf}

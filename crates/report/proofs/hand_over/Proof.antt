@@ -1,12 +1,12 @@
 -- `report::hand_over` meets its contract. The loop's invariant: the first i bytes are copied. Assumes nothing.
-use Prim.Native.Nat.{ℕ, suc, _+_, _-_, _≤_}
-use mathlib.Core.Path.{_≡_, refl, sym, ap, subst, _∙_}
-use mathlib.Core.List.{List, _++_}
+use Prim.Native.Nat.{ℕ, _-_, _≤_}
+use mathlib.Core.Path.{_≡_, sym, ap, _∙_}
+use mathlib.Core.List.{List}
 use native.Mathlib.Numerals.{add-one}
 use native.Mathlib.Nat.{zero-add}
 use native.Mathlib.Omega.{arith}
-use lib.ListN.{length, getD, set, take, drop}
-use lib.Seq.{paste, paste-zero, paste-suc, length-paste, length-take-le}
+use lib.ListN.{length, getD, set}
+use lib.Seq.{paste, paste-zero, paste-suc, length-paste}
 use denote.Ref.{now}
 use Rattle.report.proofs.Buffer.{too-short, room-enough}
 use Rattle.report.proofs.hand_over.Statement.{statement}

@@ -1,14 +1,9 @@
 -- `report::put_cut` meets its contract: one piece behind the other. Assumes nothing.
-use mathlib.Core.Path.{ap}
 use native.Mathlib.Omega.{arith}
 use borrow.Author.Needs.{needs}
-use Rattle.text.specs.Text.{decimal}
-use Rattle.text.proofs.Pieces.{then, retell}
+use Rattle.text.proofs.Pieces.{then}
 use Rattle.report.proofs.put_cut.Statement.{statement}
 use Rattle.report.proofs.put_cut.Tie as tie
-
-date-at-requires : tie.Need-date-at-requires
-date-at-requires c κs = search needs
 
 put-byte-requires : tie.Need-put-byte-requires
 put-byte-requires c κs = search needs
@@ -19,9 +14,6 @@ put-number-requires c κs = search needs
 put-byte-requires-2 : tie.Need-put-byte-requires-2
 put-byte-requires-2 c κs = omega arith
 
-cast-put-number : tie.Need-cast-put-number
-cast-put-number c = search needs
-
 put-number-requires-2 : tie.Need-put-number-requires-2
 put-number-requires-2 c κs = omega arith
 
@@ -31,23 +23,13 @@ same-length c = search needs
 returns : tie.Need-returns
 returns c =
     let number2 = c .before .before in
-    let byte2 = number2 .before .before .before .before .before in
+    let byte2 = number2 .before .before .before .before in
     let number = byte2 .before .before .before .before in
     let byte = number .before .before .before .before in
-    let date = byte .before .before in
     then (byte .put-byte .ensures)
-    (then (number .put-number .ensures .0)
-    (then (byte2 .put-byte2 .ensures) (retell (ap decimal (date .date-at .ensures)) (number2 .put-number2 .ensures .0))))
+    (then (number .put-number .ensures .0) (then (byte2 .put-byte2 .ensures) (number2 .put-number2 .ensures .0)))
 
 pub put-cut-spec : {M : Type 1} → statement M
 put-cut-spec =
     tie.close
-    (tie.spec
-    date-at-requires
-    put-byte-requires
-    put-number-requires
-    put-byte-requires-2
-    cast-put-number
-    put-number-requires-2
-    same-length
-    returns)
+    (tie.spec put-byte-requires put-number-requires put-byte-requires-2 put-number-requires-2 same-length returns)

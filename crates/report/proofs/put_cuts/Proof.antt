@@ -1,14 +1,15 @@
 -- `report::put_cuts` meets its contract. The loop's invariant: the cuts of the segments 1 to i - 1 are put. Assumes nothing.
-use Prim.Native.Nat.{ℕ, suc, _+_, _-_, _*_, _≤_, _<_}
-use mathlib.Core.Path.{_≡_, refl, sym, ap, _∙_}
-use mathlib.Core.List.{List, []}
+use Prim.Native.Nat.{ℕ, _-_, _≤_}
+use mathlib.Core.Path.{_≡_, sym, ap, _∙_}
+use mathlib.Core.List.{_++_}
 use native.Mathlib.Omega.{arith}
-use lib.ListN.{length, getD}
+use lib.ListN.{getD}
 use lib.Seq.{slice, slice-empty, length-slice}
 use denote.Ref.{now}
+use borrow.Author.Needs.{needs}
 use Rattle.text.specs.Text.{Put}
 use Rattle.text.proofs.Pieces.{put-nothing, then, retell, put-length}
-use Rattle.report.specs.Lines.{cutsText}
+use Rattle.report.specs.Lines.{pairText, cutsText}
 use Rattle.report.proofs.Lengths.{cuts-length}
 use Rattle.report.proofs.Pieces.{cuts-more}
 use Rattle.report.proofs.put_cuts.Statement.{statement}
@@ -26,15 +27,21 @@ loop-holds c =
     let s = c .before .before .before in
     (omega arith, omega arith, retell (sym (ap (cutsText (now (s .args .body))) (slice-empty 1 (now (s .args .starts))))) (put-nothing _ _))
 
-mul-put-cut : tie.Need-mul-put-cut Inv-loop μ-loop
-mul-put-cut c = omega arith
+mul-s : tie.Need-mul-s Inv-loop μ-loop
+mul-s c = omega arith
 
-shared-slice-read-put-cut : tie.Need-shared-slice-read-put-cut Inv-loop μ-loop
-shared-slice-read-put-cut c = omega arith
+shared-slice-read-s : tie.Need-shared-slice-read-s Inv-loop μ-loop
+shared-slice-read-s c = omega arith
+
+date-at-requires : tie.Need-date-at-requires Inv-loop μ-loop
+date-at-requires c κs = search needs
+
+cast-put-cut : tie.Need-cast-put-cut Inv-loop μ-loop
+cast-put-cut c = search needs
 
 put-cut-requires : tie.Need-put-cut-requires Inv-loop μ-loop
 put-cut-requires c κs =
-    let at = c .before .before .before in
+    let at = c .before .before .before .before .before in
     let s = at .before .before .before .before in
     let l = now (s .args .starts) in
     omega (
@@ -46,20 +53,27 @@ put-cut-requires c κs =
     )
 
 add-i : tie.Need-add-i Inv-loop μ-loop
-add-i c = omega (arith, c .before .before .before .before .before)
+add-i c = omega (arith, c .before .before .before .before .before .before .before)
 
 loop-less : tie.Need-loop-less Inv-loop μ-loop
-loop-less c = omega (arith, c .before .before .before .before .before)
+loop-less c = omega (arith, c .before .before .before .before .before .before .before)
 
 loop-again : tie.Need-loop-again Inv-loop μ-loop
 loop-again c =
     let p = c .before .before in
-    let in-loop = p .before .before .before in
+    let date = p .before .before .before in
+    let in-loop = date .before .before in
     let at = in-loop .before in
-    let s = at .before .before .before .before in (
+    let s = at .before .before .before .before in
+    let body = now (s .args .body) in
+    let l = now (s .args .starts) in
+    let i = at .loop .i in (
       omega (arith, in-loop),
       omega (arith, in-loop),
-      retell (cuts-more (now (s .args .body)) (now (s .args .starts)) (at .loop .i) (at .loop .inv .0) (omega (arith, in-loop, s .pre)))
+      retell (
+          ap (λ (d : ℕ). cutsText body (slice 1 i l) ++ pairText (getD l i 0) d) (date .date-at .ensures)
+          ∙ cuts-more body l i (at .loop .inv .0) (omega (arith, in-loop, s .pre))
+          )
           (then (at .loop .inv .2) (p .put-cut .ensures)),
     )
 
@@ -89,8 +103,10 @@ put-cuts-spec =
     Inv-loop
     μ-loop
     loop-holds
-    mul-put-cut
-    shared-slice-read-put-cut
+    mul-s
+    shared-slice-read-s
+    date-at-requires
+    cast-put-cut
     put-cut-requires
     add-i
     loop-less

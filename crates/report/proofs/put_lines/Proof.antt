@@ -1,8 +1,7 @@
 -- `report::put_lines` meets its contract: the first line, and for a record that is accepted the lines off its tables. Assumes nothing.
-use mathlib.Core.Path.{_≡_, ap₂, _∙_}
+use mathlib.Core.Path.{ap₂, _∙_}
 use mathlib.Core.List.{_++_}
 use native.Mathlib.Omega.{arith}
-use lib.ListN.{length}
 use denote.Ref.{now}
 use borrow.Author.Needs.{needs}
 use Rattle.text.proofs.Pieces.{then, retell}

@@ -1,5 +1,4 @@
 -- `text::put_byte` meets its contract. Assumes nothing.
-use denote.Ref.{now}
 use borrow.Author.Needs.{needs}
 use Rattle.text.proofs.Pieces.{byte-in, byte-past}
 use Rattle.text.proofs.put_byte.Statement.{statement}
