@@ -3,8 +3,9 @@ use Prim.Native.Nat.{ℕ, _+_, _*_, _≤_}
 use mathlib.Core.List.{List, [], _∷_, _++_}
 use native.Mathlib.Omega.{arith}
 use lib.ListN.{length, length-append}
+use lib.Seq.{slice, length-slice}
 use Rattle.reply.specs.declared.Reply.{Reply}
-use Rattle.text.specs.Text.{decimal}
+use Rattle.text.specs.Text.{Put, decimal}
 use Rattle.text.proofs.Pieces.{decimal-length}
 use Rattle.report.specs.Lines.{codeWord, placeWord, termWord, fileWord, replyText, headText, fileText, dateAt, cutText, cutsText, lineText}
 
@@ -37,6 +38,12 @@ pub cuts-length : (body c : List ℕ) → length (cutsText body c) ≤ 42 * leng
 cuts-length body [] = omega arith
 cuts-length body (s ∷ c) =
     omega (arith, both (cutText body s) (cutsText body c) 42 (42 * length c) (cut-length body s) (cuts-length body c))
+
+-- where the cuts of the segments 1 to i - 1 end
+pub cuts-end : (body starts : List ℕ) (i : ℕ) {before after : List ℕ} {at next : ℕ} → i ≤ 12 → 12 ≤ length starts →
+    Put before at (cutsText body (slice 1 i starts)) after next → next ≤ at + 462
+cuts-end body starts i h k put =
+    omega (arith, put .end, cuts-length body (slice 1 i starts), length-slice 1 i starts (omega (arith, h, k)), h)
 
 pub line-length : (body : List ℕ) (d cost : ℕ) (c : List ℕ) → length c ≤ 11 → length (lineText body d cost c) ≤ 504
 line-length body d cost c h =

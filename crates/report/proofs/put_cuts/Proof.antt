@@ -4,13 +4,13 @@ use mathlib.Core.Path.{_≡_, sym, ap, _∙_}
 use mathlib.Core.List.{_++_}
 use native.Mathlib.Omega.{arith}
 use lib.ListN.{getD}
-use lib.Seq.{slice, slice-empty, length-slice}
+use lib.Seq.{slice, slice-empty}
 use denote.Ref.{now}
 use borrow.Author.Needs.{needs}
 use Rattle.text.specs.Text.{Put}
 use Rattle.text.proofs.Pieces.{put-nothing, then, retell, put-length}
 use Rattle.report.specs.Lines.{pairText, cutsText}
-use Rattle.report.proofs.Lengths.{cuts-length}
+use Rattle.report.proofs.Lengths.{cuts-end}
 use Rattle.report.proofs.Pieces.{cuts-more}
 use Rattle.report.proofs.put_cuts.Statement.{statement}
 use Rattle.report.proofs.put_cuts.Tie as tie
@@ -43,12 +43,9 @@ put-cut-requires : tie.Need-put-cut-requires Inv-loop μ-loop
 put-cut-requires c κs =
     let at = c .before .before .before .before .before in
     let s = at .before .before .before .before in
-    let l = now (s .args .starts) in
     omega (
       arith,
-      at .loop .inv .2 .end,
-      cuts-length (now (s .args .body)) (slice 1 (at .loop .i) l),
-      length-slice 1 (at .loop .i) l (omega (arith, s .pre)),
+      cuts-end (now (s .args .body)) (now (s .args .starts)) (at .loop .i) (omega (arith, s .pre)) (omega (arith, s .pre)) (at .loop .inv .2),
       s .pre,
     )
 
@@ -87,13 +84,7 @@ returns c =
     let e : at .loop .i ≡ s .args .d = omega arith in
     let l = now (s .args .starts) in (
       retell (ap (λ (i : ℕ). cutsText (now (s .args .body)) (slice 1 i l)) e) (at .loop .inv .2),
-      omega (
-        arith,
-        at .loop .inv .2 .end,
-        cuts-length (now (s .args .body)) (slice 1 (at .loop .i) l),
-        length-slice 1 (at .loop .i) l (omega (arith, s .pre)),
-        s .pre,
-      ),
+      cuts-end (now (s .args .body)) l (at .loop .i) (omega (arith, s .pre)) (omega (arith, s .pre)) (at .loop .inv .2),
     )
 
 pub put-cuts-spec : {M : Type 1} → statement M
