@@ -1,0 +1,22 @@
+-- All that is promised of the reply to a call, by what the call tries.
+use Prim.Native.Nat.{ℕ, _<_}
+use mathlib.Core.Path.{_≡_}
+use mathlib.Core.Bool.{true}
+use mathlib.Core.Logic.{_↔_}
+use mathlib.Core.List.{List, _∷_}
+use Rattle.reply.specs.declared.Reply.{Reply}
+use Rattle.reply.specs.Codes.{among}
+use Rattle.reply.specs.Tries.{Tries, firstOf, Clear, Refused}
+
+-- r answers the tries, whose codes are cs, and has the property P, which says what places there are.
+pub record Answered (cs : List ℕ) (P : Reply → Type 0) (ts : Tries) (r : Reply) : Type 0 where
+  -- the tries and nothing else decide
+  pub decided : r ≡ firstOf ts
+  -- "where none does, the reply is 0": it is 0 exactly where no fact that is tried holds
+  pub accepted : (r .code ≡ 0) ↔ Clear ts
+  -- "A refusal is given only where its stated reason holds": it is a refusal exactly for the first fact that does
+  pub refused : (s : Reply) → (s .code ≡ 0 → ⊥) → (r ≡ s) ↔ Refused ts s
+  -- "a numbered reply": 0, or one of the codes, each of which fits a byte
+  pub numbered : among (r .code) (0 ∷ cs) ≡ true
+  pub small : r .code < 256
+  pub placed : P r
