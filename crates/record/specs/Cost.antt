@@ -2,6 +2,7 @@
 use Prim.Native.Nat.{ℕ}
 use mathlib.Core.List.{List}
 use lib.IntN.{ℤ}
+use Rattle.cutting.specs.Limits.{leastLength}
 use Rattle.cutting.specs.Cutting.{Cutting, Choice}
 use Rattle.cutting.specs.Recurrence.{leastIn, chosenIn}
 use Rattle.kernel.specs.declared.Named.{Named}
@@ -20,9 +21,9 @@ costUnder (Known k) xs s t = cost (kernel k) xs s t
 abbrev pub costOf : Asked → List ℕ → ℕ → ℕ → ℕ
 costOf asked body = costUnder (namedOf (asked .kernel)) (samples asked body)
 
--- "every segment is nonempty": how many observations a segment has at least
+-- how many observations a segment has at least
 abbrev pub shortest : Asked → ℕ
-shortest asked = 1
+shortest asked = leastLength
 
 -- "A cutting into D segments is the list of its segments' first indices; the first is 0 and every segment is nonempty.", of the first t
 abbrev pub CuttingOf : Asked → (D t : ℕ) → List ℕ → Type 0

@@ -1,13 +1,5 @@
--- The widths and limits of a record, by name.
+-- The widths and limits of a record, by name. How many observations and segments there are at most is in `cutting`.
 use Prim.Native.Nat.{ℕ}
-
--- "Observations n: 1 to 400."
-abbrev pub mostDays : ℕ
-mostDays = 400
-
--- "Segment count asked for, Dmax: 1 to 12"
-abbrev pub mostSegments : ℕ
-mostSegments = 12
 
 -- "kernel not 1, 2, 3", "sample kind not 0 or 1"
 abbrev pub mostKernel : ℕ
