@@ -5,6 +5,7 @@ use mathlib.Core.Bool.{Bool, cond}
 use lib.Dec.{ltb, leb, eqb}
 use lib.IntN.{ℤ, pos, negℤ, natAbs}
 use lib.Ieee.{Float, nan, inf, fin, up, down}
+use Rattle.sample.specs.Level.{largest, scale}
 use Rattle.sample.specs.declared.Sample.{Sample}
 use Rattle.sample.specs.declared.Sample.the-variants.{Count, Share}
 use Rattle.sample.specs.declared.Judged.{Judged}
@@ -16,17 +17,17 @@ signed s n = cond s (negℤ (pos n)) (pos n)
 
 -- The x of size a / c, negative where s is true: "Range is judged before wholeness".
 unfoldable pub judgedRatio : Bool → ℕ → ℕ → Judged
-judgedRatio s a c = cond (ltb (1000000 * c) a) OutOfRange (cond (eqb (a % c) 0) (Whole (signed s (a / c))) NotWhole)
+judgedRatio s a c = cond (ltb (largest * c) a) OutOfRange (cond (eqb (a % c) 0) (Whole (signed s (a / c))) NotWhole)
 
 -- "A share v becomes x = 65,536 times v, accepted only if that is whole and in range."; "NaN, either infinity: refused, 9".
 unfoldable pub judgedShare : Float → Judged
 judgedShare nan = NotFinite
 judgedShare (inf s) = NotFinite
-judgedShare (fin s m e) = judgedRatio s (m * up e * 65536) (down e)
+judgedShare (fin s m e) = judgedRatio s (m * up e * scale) (down e)
 
 -- A count stands for itself, and is in range (`InRange`) or not.
 unfoldable pub judgedCount : ℤ → Judged
-judgedCount n = cond (leb (natAbs n) 1000000) (Whole n) OutOfRange
+judgedCount n = cond (leb (natAbs n) largest) (Whole n) OutOfRange
 
 -- "Each sample arrives either as a signed count or as a 64-bit floating share."
 abbrev pub judgedOf : Sample → Judged

@@ -7,6 +7,15 @@ ghost use Rattle.sample.specs.Level.{InRange, level};
 ghost use Rattle.sample.specs.Code.{levelOf};
 ghost use Rattle.sample.specs.Word.{countOf, sampleOf};
 
+// The largest sample.
+const LARGEST: i64 = 1000000;
+
+// The smallest sample.
+const SMALLEST: i64 = -1000000;
+
+// The level of the sample 0.
+pub const ZERO_LEVEL: usize = 1000000;
+
 pub enum Sample {
     Count(i64),
     Share(f64),
@@ -32,7 +41,7 @@ pub fn judge(s: Sample) -> Judged
 fn judge_count(n: i64) -> Judged
     ensures { λ r. ⌜ r ≡ judgedCount n ⌝ }
 {
-    if -1000000 <= n && n <= 1000000 {
+    if SMALLEST <= n && n <= LARGEST {
         return Judged::Whole(n);
     }
     Judged::OutOfRange
@@ -124,5 +133,5 @@ fn raised(x: i64) -> u64
     requires { ⌜ InRange x ⌝ }
     ensures { λ r. ⌜ r ≡ level x ⌝ }
 {
-    (x + 1000000) as u64
+    (x + LARGEST) as u64
 }
