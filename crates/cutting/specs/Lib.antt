@@ -2,3 +2,4 @@ pub mod Cutting
 pub mod Recurrence
 pub mod Table
 pub mod Costs
+pub mod Limits

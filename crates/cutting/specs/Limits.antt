@@ -1,0 +1,26 @@
+-- The numbers that the rules fix for records and their tables, by name.
+-- Assumes nothing.
+use Prim.Native.Nat.{ℕ}
+
+-- "Observations n: 1 to 400."
+abbrev pub mostObservations : ℕ
+mostObservations = 400
+
+-- "Segment count asked for, Dmax: 1 to 12 and no more than n."
+abbrev pub mostSegments : ℕ
+mostSegments = 12
+
+-- "every segment is nonempty"
+abbrev pub leastLength : ℕ
+leastLength = 1
+
+-- "Sample: a whole x from -1,000,000 to 1,000,000." A sample's level is x + 1,000,000.
+abbrev pub largestLevel : ℕ
+largestLevel = 2000000
+
+-- "Tables are little-endian entries of 8 and 2 bytes": the costs' and the starts'.
+abbrev pub costBytes : ℕ
+costBytes = 8
+
+abbrev pub startBytes : ℕ
+startBytes = 2
