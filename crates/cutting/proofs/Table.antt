@@ -1,7 +1,7 @@
 -- The tables' entries, where there is a cutting and where there is none; that an entry worked from the rows before it is
 -- the table's; and the walk through a table that holds them.
 -- Assumes nothing.
-use Prim.Native.Nat.{ℕ, zero, suc, _+_, _-_, _*_, _≤_, _<_}
+use Prim.Native.Nat.{ℕ, suc, _+_, _-_, _*_, _≤_, _<_}
 use mathlib.Core.Path.{_≡_, refl, sym, _∙_, subst, subst⁻¹}
 use native.Mathlib.Decide.{decLt}
 use native.Mathlib.Omega.{arith}

@@ -8,7 +8,7 @@ use native.Mathlib.Omega.{arith}
 use mathlib.Core.Path.{_≡_, refl, sym, _∙_, ap}
 use mathlib.Core.List.{List}
 use lib.ListN.{length, getD}
-use Rattle.table.specs.Fill.{cell, fill, fillColumn}
+use Rattle.table.specs.Fill.{fill, fillColumn}
 use Rattle.table.proofs.Fill.{column-other, column-ext, fill-more, fill-here}
 use Rattle.cutting.specs.Costs.{Within}
 use Rattle.cutting.specs.Limits.{costBytes, startBytes}
@@ -16,7 +16,7 @@ use Rattle.cutting.specs.Recurrence.{room, least}
 use Rattle.cutting.specs.Table.{costAt, startAt, costFrom, startFrom}
 use Rattle.cutting.proofs.Bound.{least-most}
 use Rattle.cutting.proofs.Same.{Alike}
-use Rattle.cutting.proofs.Table.{cost-none, cost-some, cost-from, start-from}
+use Rattle.cutting.proofs.Table.{cost-none, cost-some, cost-alike, start-alike, cost-from, start-from}
 use Rattle.recurrence.specs.Column.{rowsOf, pricesOf}
 
 -- while column t is filled, the rows before it stay: ys is the table xs with some of the column
@@ -25,8 +25,15 @@ module _ (n : ℕ) (f : ℕ → ℕ) (t m : ℕ) (xs ys : List ℕ) (upto : t �
   row-kept d s h =
       ap (λ (zs : List ℕ). rowsOf n zs d s) filled ∙ column-other costBytes n f t xs m d s upto (omega arith) (omega arith)
 
-  pub kept : (w : ℕ → ℕ → ℕ) (l : ℕ) → 1 ≤ l → (k : ℕ) → Alike w w l 0 (rowsOf n ys) (rowsOf n xs) k t
-  kept w l some k = record { segments = λ s a b. refl; rows = λ j s a b c. row-kept j s (omega arith) }
+  module _ (w : ℕ → ℕ → ℕ) (l : ℕ) (some : 1 ≤ l) (k x : ℕ) where
+    kept : Alike w w l 0 (rowsOf n ys) (rowsOf n xs) k t
+    kept = record { segments = λ s a b. refl; rows = λ j s a b c. row-kept j s (omega arith) }
+
+    pub cost-kept : x ≡ costFrom w l (rowsOf n ys) k t → x ≡ costFrom w l (rowsOf n xs) k t
+    cost-kept e = e ∙ cost-alike w w l _ _ k t kept
+
+    pub start-kept : x ≡ startFrom w l (rowsOf n ys) k t → x ≡ startFrom w l (rowsOf n xs) k t
+    start-kept e = e ∙ start-alike w w l _ _ k t kept
 
 -- What holds of the cost table before column t is worked: its columns below t have the entries, ys for the lent xs, and cs has the costs
 -- of the last segments; a segment has at least l observations, and costs at most b for each.

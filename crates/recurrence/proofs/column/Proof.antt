@@ -7,9 +7,8 @@ use lib.ListN.{length}
 use Rattle.table.specs.Fill.{cell, fillColumn}
 use Rattle.table.proofs.Fill.{column-none, column-more, column-length, cell-below}
 use Rattle.cutting.specs.Limits.{mostObservations, mostSegments, leastLength, costBytes, startBytes}
-use Rattle.cutting.proofs.Table.{cost-alike, start-alike}
-use Rattle.recurrence.specs.Column.{pricesOf, cellCost, cellStart}
-use Rattle.recurrence.proofs.Entries.{row-kept, kept}
+use Rattle.recurrence.specs.Column.{cellCost, cellStart}
+use Rattle.recurrence.proofs.Entries.{row-kept, cost-kept, start-kept}
 use Rattle.recurrence.proofs.column.Statement.{statement}
 use Rattle.recurrence.proofs.column.Tie as tie
 
@@ -89,10 +88,12 @@ loop-again c =
     let b = c .before .before .before .before .before .before .before .before .best-at in
     let f = cellCost (a .size) (a .costs .now) (a .c .now) (a .t) in
     let g = cellStart (a .size) (a .costs .now) (a .c .now) (a .t) in
-    let w = pricesOf (a .c .now) in
-    let same = kept (a .size .n) f (a .t) (l .d) _ _ (omega (arith, i)) (l .inv .1) w leastLength (omega arith) (l .d) in
-    let cost : b .result .cost ≡ f (l .d) = b .ensures .0 ∙ cost-alike w w leastLength _ _ _ _ same in
-    let start : b .result .start ≡ g (l .d) = b .ensures .1 ∙ start-alike w w leastLength _ _ _ _ same in (
+    let cost : b .result .cost ≡ f (l .d) =
+    cost-kept (a .size .n) f (a .t) (l .d) _ _ (omega (arith, i)) (l .inv .1) _ leastLength (omega arith) (l .d) _ (b .ensures .0)
+    in
+    let start : b .result .start ≡ g (l .d) =
+    start-kept (a .size .n) f (a .t) (l .d) _ _ (omega (arith, i)) (l .inv .1) _ leastLength (omega arith) (l .d) _ (b .ensures .1)
+    in (
       omega (arith, i),
       c .before .before .before .before .before .before .store .ensures
           ∙ rw (l .inv .1, cost) (sym (column-more costBytes (a .size .n) f (a .t) (a .costs .now) (l .d))),

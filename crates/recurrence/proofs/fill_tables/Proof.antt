@@ -1,16 +1,13 @@
 -- `recurrence::fill_tables` meets its contract. The loop's invariant: the columns below t are filled, and the tails and the costs are those at t. Assumes nothing.
-use Prim.Native.Nat.{ℕ, _+_, _-_, _*_, _^_, _≤_, _<_}
+use Prim.Native.Nat.{ℕ, _+_, _-_, _≤_, _<_}
 use native.Mathlib.Omega.{arith}
 use mathlib.Core.Path.{_≡_, refl, sym, _∙_, ap}
-use mathlib.Core.List.{List}
 use lib.ListN.{length, getD}
 use Rattle.table.specs.Fill.{fill}
 use Rattle.table.proofs.Fill.{fill-none, fill-length}
 use Rattle.cutting.specs.Limits.{mostObservations, leastLength, costBytes, startBytes}
 use Rattle.cutting.specs.Table.{costAt, startAt}
 use Rattle.kernel.specs.Cost.{unitsOf}
-use Rattle.recurrence.specs.declared.Size.{Size}
-use Rattle.recurrence.specs.Column.{costColumn, startColumn, Sums}
 use Rattle.recurrence.specs.Weight.{mostEach, Tails, levelCost}
 use Rattle.recurrence.proofs.Entries.{Held, sums-right, costs-more, starts-more}
 use Rattle.recurrence.proofs.Weight.{tails-pairs, tail-small, cost-small}
