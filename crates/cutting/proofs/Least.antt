@@ -8,12 +8,18 @@ use native.Mathlib.Omega.{arith}
 use native.Mathlib.Decide.{decLt}
 use lib.ListN.{length}
 use Rattle.cutting.specs.Cutting.{NoLater}
-use Rattle.cutting.specs.Recurrence.{earliest, room, span, place, least, last, walk, chosen}
+use Rattle.cutting.specs.Recurrence.{earliest, room, span, place, leastFrom, least, last, walk, chosen}
 use Rattle.cutting.proofs.Cuts.{Cuts, costBack, cuts-room}
 use Rattle.cutting.proofs.Earliest.{Earliest, earliest-is}
 use Rattle.cutting.proofs.Order.{FirstBack}
 
 module _ (w : ℕ → ℕ → ℕ) (l p : ℕ) where
+  -- the least costs are what the recurrence makes of them
+  pub least-from : (k t : ℕ) → leastFrom w l p (least w l p) k t ≡ least w l p k t
+  unfolding least
+  least-from zero t = refl
+  least-from (suc k) t = refl
+
   -- the recurrence, as the place of the last segment has it
   pub last-at : (k t : ℕ) → last w l p (suc k) t ≡ earliest (λ s. least w l p k s + w s t) (room l p k) (span l p k t)
   unfolding last place

@@ -1,3 +1,2 @@
-pub mod Cell
 pub mod Weight
 pub mod Entries

@@ -7,13 +7,15 @@ use mathlib.Core.Path.{_≡_, sym, _∙_, ap, ap₂, subst}
 use mathlib.Core.List.{List, [], _∷_}
 use lib.ListN.{length, getD, length-take, drop-of-length-le, take}
 use lib.Seq.{slice, slice-cons, length-slice}
+use Rattle.cutting.specs.Costs.{Within}
+use Rattle.cutting.specs.Limits.{largestLevel}
 use Rattle.kernel.specs.declared.Kernel.{Kernel}
 use Rattle.kernel.specs.Kernel.{far}
 use Rattle.kernel.specs.Pairs.{sum, pairs, All}
 use Rattle.kernel.proofs.Slices.{sum-back, pairs-front, all-slice}
 use Rattle.kernel.proofs.Limits.{sum-le}
 use Rattle.kernel.proofs.Level.{dist-le}
-use Rattle.recurrence.specs.Weight.{between, tail, total, levelCost}
+use Rattle.recurrence.specs.Weight.{Levels, between, tail, Tails, total, levelCost, mostPair, mostEach}
 
 -- ---- lists by their indices
 pub all-at : (P : ℕ → Type 0) (l : List ℕ) → ((i : ℕ) → i < length l → P (getD l i 0)) → All P l
@@ -25,6 +27,13 @@ slice-none s t l h =
     let short : length (take t l) ≤ s = omega (arith, length-take t l) in
     drop-of-length-le (take t l) short
 
+-- ---- a pair
+abbrev Low : ℕ → Type 0
+Low x = x ≤ largestLevel
+
+pub between-small : (k : Kernel) (x y : ℕ) → x ≤ largestLevel → y ≤ largestLevel → between k x y ≤ mostPair
+between-small k x y a b = dist-le k (far x y) (omega arith)
+
 -- ---- a tail
 module _ (k : Kernel) (u : List ℕ) where
   pub tail-none : (s : ℕ) → tail k u s (s + 1) ≡ 0
@@ -33,22 +42,15 @@ module _ (k : Kernel) (u : List ℕ) where
   pub tail-more : (s t : ℕ) → s < t → t < length u → tail k u s (t + 1) ≡ tail k u s t + between k (getD u s 0) (getD u t 0)
   tail-more s t h b = rw add-one (sum-back (between k (getD u s 0)) (suc s) t u 0 (omega arith) b)
 
-  -- levels in range: a pair adds at most 4 · 10 ^ 12, and a tail so much for each observation
-  module _ (low : (i : ℕ) → i < length u → getD u i 0 ≤ 2000000) where
-    levels : All (λ x. x ≤ 2000000) u
-    levels = all-at (λ x. x ≤ 2000000) u low
-
-    pub between-small : (x y : ℕ) → x ≤ 2000000 → y ≤ 2000000 → between k x y ≤ 4000000000000
-    between-small x y a b = dist-le k (far x y) (omega arith)
-
-    pub tail-small : (s t : ℕ) → s < t → t ≤ length u → tail k u s t ≤ 4000000000000 * (t - s)
-    tail-small s t h b =
-        omega (
-          arith,
-          sum-le (λ x. x ≤ 2000000) (between k (getD u s 0)) 4000000000000 (λ x q. between-small (getD u s 0) x (low s (omega arith)) q)
-              (slice (suc s) t u) (all-slice (λ x. x ≤ 2000000) (suc s) t u levels),
-          length-slice (suc s) t u b,
-        )
+  -- levels in range: a tail holds at most `mostPair` for each observation
+  pub tail-small : Levels u → (s t : ℕ) → s < t → t ≤ length u → tail k u s t ≤ mostPair * (t - s)
+  tail-small low s t h b =
+      omega (
+        arith,
+        sum-le Low (between k (getD u s 0)) mostPair (λ x q. between-small k (getD u s 0) x (low s (omega arith)) q)
+            (slice (suc s) t u) (all-slice Low (suc s) t u (all-at Low u low)),
+        length-slice (suc s) t u b,
+      )
 
 -- ---- the sum of the numbers from s on
 module _ (a : List ℕ) (t : ℕ) (b : t ≤ length a) where
@@ -63,7 +65,7 @@ module _ (a : List ℕ) (t : ℕ) (b : t ≤ length a) where
   total-small c h (suc m) s e = omega (arith, total-more s (omega arith), h s (omega arith), total-small c h m (suc s) (omega arith))
 
   -- the tails of s .. t - 1 sum to the pairs of s .. t - 1
-  pub tails-pairs : (k : Kernel) (u : List ℕ) → t ≤ length u → ((s : ℕ) → s < t → getD a s 0 ≡ tail k u s t) →
+  pub tails-pairs : (k : Kernel) (u : List ℕ) → t ≤ length u → Tails k u t a →
       (m s : ℕ) → s + m ≡ t → total (slice s t a) ≡ pairs (between k) (slice s t u)
   tails-pairs k u l h zero s e =
       total-none s (omega arith) ∙ sym (ap (pairs (between k)) (slice-none s t u (omega arith)))
@@ -72,21 +74,20 @@ module _ (a : List ℕ) (t : ℕ) (b : t ≤ length a) where
       ∙ ap₂ _+_ (h s (omega arith)) (tails-pairs k u l h m (suc s) (omega arith))
       ∙ sym (pairs-front (between k) s t u 0 (omega arith) l)
 
--- ---- costs are at most 16,384 · 10 ^ 12 for each observation
+-- ---- costs
 pairs-small : (d : ℕ → ℕ → ℕ) (P : ℕ → Type 0) (c : ℕ) → ((x y : ℕ) → P x → P y → d x y ≤ c) → (l : List ℕ) → All P l → pairs d l ≤ length l * (length l * c)
 pairs-small d P c h [] p = omega arith
 pairs-small d P c h (x ∷ l) p =
     omega (arith, pairs-small d P c h l (p .1), sum-le P (d x) c (λ y q. h x y (p .0) q) l (p .1))
 
-pub cost-small : (k : Kernel) (u : List ℕ) → ((i : ℕ) → i < length u → getD u i 0 ≤ 2000000) → (s t : ℕ) → s < t → t ≤ length u →
-    levelCost k u s t + 16384000000000000 * s ≤ 16384000000000000 * t
-cost-small k u low s t h b =
+pub cost-small : (k : Kernel) (u : List ℕ) → Levels u → (l : ℕ) → 1 ≤ l → Within (levelCost k u) mostEach l 0 (length u)
+cost-small k u low _ some s t _ h b =
     let m = t - s in
     let l = slice s t u in
     let few : length l ≡ m = length-slice s t u b in
-    let small : pairs (between k) l ≤ m * (m * 4000000000000) =
-    subst (λ (x : ℕ). pairs (between k) l ≤ x * (x * 4000000000000)) few
-    (pairs-small (between k) (λ x. x ≤ 2000000) 4000000000000 (between-small k u low) l (all-slice (λ x. x ≤ 2000000) s t u (all-at (λ x. x ≤ 2000000) u low)))
+    let small : pairs (between k) l ≤ m * (m * mostPair) =
+    subst (λ (x : ℕ). pairs (between k) l ≤ x * (x * mostPair)) few
+    (pairs-small (between k) Low mostPair (between-small k) l (all-slice Low s t u (all-at Low u low)))
     in
-    let cost : levelCost k u s t ≤ 16384000000000000 * m = div-le-of-le-mul m (omega arith) in
+    let cost : levelCost k u s t ≤ mostEach * m = div-le-of-le-mul m (omega arith) in
     omega arith

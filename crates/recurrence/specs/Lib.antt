@@ -1,3 +1,3 @@
 pub mod Weight
-pub mod Cell
+pub mod Column
 pub mod Tables

@@ -4,30 +4,45 @@ ghost use mathlib.Core.Path.{_≡_};
 ghost use Prim.Native.Nat.{ℕ, _+_, _-_, _*_, _^_, _≤_, _<_};
 ghost use lib.ListN.{length, getD};
 ghost use lib.Seq.{slice};
-ghost use Rattle.table.specs.Fill.{fillColumn, fill};
-ghost use Rattle.cutting.specs.Table.{costAt, startAt};
-ghost use Rattle.cutting.proofs.Scan.{Found};
+ghost use Rattle.cutting.specs.Limits.{mostObservations, mostSegments, costBytes};
+ghost use Rattle.cutting.specs.Recurrence.{Found};
 ghost use Rattle.kernel.specs.Cost.{unitsOf};
-ghost use Rattle.recurrence.specs.Cell.{sumAt, cellCost, cellStart, Sums};
-ghost use Rattle.recurrence.specs.Weight.{total, tail, levelCost};
+ghost use Rattle.recurrence.specs.Column.{sumAt, cellCost, cellStart, costColumn, startColumn, Sums};
+ghost use Rattle.recurrence.specs.Tables.{Lent, costTable, startTable};
+ghost use Rattle.recurrence.specs.Weight.{mostTail, Levels, Tails, total, levelCost};
+use cutting::COST_BYTES;
+use cutting::LEAST_LENGTH;
+use cutting::MOST_OBSERVATIONS;
+use cutting::START_BYTES;
 use kernel::Kernel;
+
+// "Where t is less than D, no cutting exists: the entries are 18,446,744,073,709,551,615 and 65,535."
+const NO_COST: u64 = 0xffff_ffff_ffff_ffff;
+
+const NO_START: usize = 0xffff;
 
 pub struct Best {
     pub cost: u64,
     pub start: usize,
 }
 
+// The size of the two tables: dmax rows, each of n + 1 columns.
+pub struct Size {
+    pub n: usize,
+    pub dmax: usize,
+}
+
 // The least of a row's entries plus the last segment's costs, at s from lo to hi - 1, and the earliest s that has it.
-fn least(costs: &[u8], row: usize, c: &[u64; 400], lo: usize, hi: usize) -> Best
-    requires { ⌜ (lo < hi) × (hi ≤ 400) × (8 * (row + hi) ≤ length (now costs)) ⌝ }
+fn least(costs: &[u8], row: usize, c: &[u64; MOST_OBSERVATIONS], lo: usize, hi: usize) -> Best
+    requires { ⌜ (lo < hi) × (hi ≤ mostObservations) × (costBytes * (row + hi) ≤ length (now costs)) ⌝ }
     requires { ⌜ ((s : ℕ) → lo ≤ s → s < hi → sumAt (now costs) row (now c) s < 2 ^ 64) ⌝ }
     ensures { λ r. ⌜ Found (sumAt (now (costs .entry)) row (now (c .entry))) lo hi (r .cost) (r .start) ⌝ }
 {
-    let mut cost = table::load(costs, 8 * (row + lo), 8) + c[lo];
+    let mut cost = table::load(costs, COST_BYTES * (row + lo), COST_BYTES) + c[lo];
     let mut start = lo;
     let mut s = lo + 1;
     while s < hi {
-        let x = table::load(costs, 8 * (row + s), 8) + c[s];
+        let x = table::load(costs, COST_BYTES * (row + s), COST_BYTES) + c[s];
         if x < cost {
             cost = x;
             start = s;
@@ -38,15 +53,17 @@ fn least(costs: &[u8], row: usize, c: &[u64; 400], lo: usize, hi: usize) -> Best
 }
 
 // What row d of column t is to hold: the marks where no cutting is.
-fn best_at(costs: &[u8], c: &[u64; 400], n: usize, dmax: usize, d: usize, t: usize) -> Best
-    requires { ⌜ (n ≤ 400) × (t ≤ n) × (dmax ≤ 12) × (d < dmax) × (8 * (dmax * (n + 1)) ≤ length (now costs)) ⌝ }
-    requires { ⌜ Sums (now costs) (now c) n t dmax ⌝ }
-    ensures { λ r. ⌜ (r .cost ≡ cellCost (now (costs .entry)) (now (c .entry)) n t d) × (r .start ≡ cellStart (now (costs .entry)) (now (c .entry)) n t d) ⌝ }
+fn best_at(costs: &[u8], c: &[u64; MOST_OBSERVATIONS], size: Size, d: usize, t: usize) -> Best
+    requires { ⌜ (size .n ≤ mostObservations) × (size .dmax ≤ mostSegments) × (t ≤ size .n) × (d < size .dmax) ⌝ }
+    requires { ⌜ costBytes * (size .dmax * (size .n + 1)) ≤ length (now costs) ⌝ }
+    requires { ⌜ Sums size (now costs) (now c) t ⌝ }
+    ensures { λ r. ⌜ r .cost ≡ cellCost size (now (costs .entry)) (now (c .entry)) t d ⌝ }
+    ensures { λ r. ⌜ r .start ≡ cellStart size (now (costs .entry)) (now (c .entry)) t d ⌝ }
 {
-    if t <= d {
+    if t < (d + 1) * LEAST_LENGTH {
         return Best {
-            cost: 0xffff_ffff_ffff_ffff,
-            start: 0xffff,
+            cost: NO_COST,
+            start: NO_START,
         };
     }
     if d == 0 {
@@ -55,32 +72,40 @@ fn best_at(costs: &[u8], c: &[u64; 400], n: usize, dmax: usize, d: usize, t: usi
             start: 0,
         };
     }
-    least(costs, (d - 1) * (n + 1), c, d, t)
+    least(
+        costs,
+        (d - 1) * (size.n + 1),
+        c,
+        d * LEAST_LENGTH,
+        t + 1 - LEAST_LENGTH,
+    )
 }
 
 // Fills column t of both tables, rows 0 to dmax - 1.
-fn column(costs: &mut [u8], starts: &mut [u8], c: &[u64; 400], n: usize, dmax: usize, t: usize)
-    requires { ⌜ (n ≤ 400) × (t ≤ n) × (dmax ≤ 12) × (8 * (dmax * (n + 1)) ≤ length (now costs)) × (2 * (dmax * (n + 1)) ≤ length (now starts)) ⌝ }
-    requires { ⌜ Sums (now costs) (now c) n t dmax ⌝ }
-    ensures { λ _. ⌜ now (costs .exit) ≡ fillColumn 8 n (cellCost (now (costs .entry)) (now (c .entry)) n t) t dmax (now (costs .entry)) ⌝ }
-    ensures { λ _. ⌜ now (starts .exit) ≡ fillColumn 2 n (cellStart (now (costs .entry)) (now (c .entry)) n t) t dmax (now (starts .entry)) ⌝ }
+fn column(costs: &mut [u8], starts: &mut [u8], c: &[u64; MOST_OBSERVATIONS], size: Size, t: usize)
+    requires { ⌜ Lent (size .n) (size .dmax) (now costs) (now starts) × (t ≤ size .n) ⌝ }
+    requires { ⌜ Sums size (now costs) (now c) t ⌝ }
+    ensures { λ _. ⌜ now (costs .exit) ≡ costColumn size (now (costs .entry)) (now (c .entry)) t ⌝ }
+    ensures { λ _. ⌜ now (starts .exit) ≡ startColumn size (now (costs .entry)) (now (c .entry)) t (now (starts .entry)) ⌝ }
 {
+    let rows = size.dmax;
+    let columns = size.n + 1;
     let mut d = 0;
-    while d < dmax {
-        let e = d * (n + 1) + t;
-        let b = best_at(costs, c, n, dmax, d, t);
-        table::store(costs, 8 * e, 8, b.cost);
-        table::store(starts, 2 * e, 2, b.start as u64);
+    while d < rows {
+        let e = d * columns + t;
+        let b = best_at(costs, c, size, d, t);
+        table::store(costs, COST_BYTES * e, COST_BYTES, b.cost);
+        table::store(starts, START_BYTES * e, START_BYTES, b.start as u64);
         d += 1;
     }
 }
 
 // Observation t joins the tails of those before it, and starts its own.
 fn grow(k: Kernel, u: &[u64], a: &mut [u64], t: usize)
-    requires { ⌜ (t < length (now u)) × (t < length (now a)) × (t < 400) ⌝ }
-    requires { ⌜ ((i : ℕ) → i < length (now u) → getD (now u) i 0 ≤ 2000000) ⌝ }
-    requires { ⌜ ((s : ℕ) → s < t → getD (now a) s 0 ≡ tail k (now u) s t) ⌝ }
-    ensures { λ _. ⌜ ((s : ℕ) → s < t + 1 → getD (now (a .exit)) s 0 ≡ tail k (now (u .entry)) s (t + 1)) ⌝ }
+    requires { ⌜ (t < length (now u)) × (t < length (now a)) × (t < mostObservations) ⌝ }
+    requires { ⌜ Levels (now u) ⌝ }
+    requires { ⌜ Tails k (now u) t (now a) ⌝ }
+    ensures { λ _. ⌜ Tails k (now (u .entry)) (t + 1) (now (a .exit)) ⌝ }
 {
     let y = u[t];
     let mut s = 0;
@@ -93,8 +118,8 @@ fn grow(k: Kernel, u: &[u64], a: &mut [u64], t: usize)
 
 // The cost in units of each last segment of the first t, by its start, from the tails.
 fn price(a: &[u64], c: &mut [u64], t: usize)
-    requires { ⌜ (t ≤ length (now a)) × (t ≤ length (now c)) × (t ≤ 400) ⌝ }
-    requires { ⌜ ((s : ℕ) → s < t → getD (now a) s 0 ≤ 1600000000000000) ⌝ }
+    requires { ⌜ (t ≤ length (now a)) × (t ≤ length (now c)) × (t ≤ mostObservations) ⌝ }
+    requires { ⌜ ((s : ℕ) → s < t → getD (now a) s 0 ≤ mostTail) ⌝ }
     ensures { λ _. ⌜ ((s : ℕ) → s < t → getD (now (c .exit)) s 0 ≡ unitsOf (total (slice s t (now (a .entry)))) (t - s)) ⌝ }
 {
     let mut s = t;
@@ -110,20 +135,21 @@ fn price(a: &[u64], c: &mut [u64], t: usize)
 
 // Fills both tables for every count of segments to dmax.
 pub fn fill_tables(k: Kernel, u: &[u64], dmax: usize, costs: &mut [u8], starts: &mut [u8])
-    requires { ⌜ (length (now u) ≤ 400) × (dmax ≤ 12) × (8 * (dmax * (length (now u) + 1)) ≤ length (now costs)) × (2 * (dmax * (length (now u) + 1)) ≤ length (now starts)) ⌝ }
-    requires { ⌜ ((i : ℕ) → i < length (now u) → getD (now u) i 0 ≤ 2000000) ⌝ }
-    ensures { λ _. ⌜ now (costs .exit) ≡ fill 8 (length (now (u .entry))) dmax (costAt (levelCost k (now (u .entry))) 1) (length (now (u .entry)) + 1) (now (costs .entry)) ⌝ }
-    ensures { λ _. ⌜ now (starts .exit) ≡ fill 2 (length (now (u .entry))) dmax (startAt (levelCost k (now (u .entry))) 1) (length (now (u .entry)) + 1) (now (starts .entry)) ⌝ }
+    requires { ⌜ Lent (length (now u)) dmax (now costs) (now starts) ⌝ }
+    requires { ⌜ Levels (now u) ⌝ }
+    ensures { λ _. ⌜ now (costs .exit) ≡ costTable (levelCost k (now (u .entry))) (length (now (u .entry))) dmax (now (costs .entry)) ⌝ }
+    ensures { λ _. ⌜ now (starts .exit) ≡ startTable (levelCost k (now (u .entry))) (length (now (u .entry))) dmax (now (starts .entry)) ⌝ }
 {
     let n = u.len();
-    let mut a = [0u64; 400];
-    let mut c = [0u64; 400];
+    let size = Size { n, dmax };
+    let mut a = [0u64; MOST_OBSERVATIONS];
+    let mut c = [0u64; MOST_OBSERVATIONS];
     let mut t = 0;
     while t < n {
-        column(costs, starts, &c, n, dmax, t);
+        column(costs, starts, &c, size, t);
         grow(k, u, &mut a, t);
         t += 1;
         price(&a, &mut c, t);
     }
-    column(costs, starts, &c, n, dmax, t);
+    column(costs, starts, &c, size, t);
 }

@@ -1,85 +1,60 @@
 -- `recurrence::fill_tables` meets its contract. The loop's invariant: the columns below t are filled, and the tails and the costs are those at t. Assumes nothing.
-use Prim.Native.Nat.{ℕ, _+_, _-_, _*_, _^_, _≤_, _<_}
+use Prim.Native.Nat.{ℕ, _+_, _-_, _≤_, _<_}
 use native.Mathlib.Omega.{arith}
 use mathlib.Core.Path.{_≡_, refl, sym, _∙_, ap}
-use mathlib.Core.List.{List}
 use lib.ListN.{length, getD}
-use Rattle.table.specs.Fill.{fill, fillColumn}
+use Rattle.table.specs.Fill.{fill}
 use Rattle.table.proofs.Fill.{fill-none, fill-length}
-use Rattle.cutting.specs.Costs.{Within}
+use Rattle.cutting.specs.Limits.{mostObservations, leastLength, costBytes, startBytes}
 use Rattle.cutting.specs.Table.{costAt, startAt}
 use Rattle.kernel.specs.Cost.{unitsOf}
-use Rattle.recurrence.specs.Cell.{cellCost, cellStart, Sums}
-use Rattle.recurrence.specs.Weight.{tail, levelCost}
-use Rattle.recurrence.proofs.Entries.{sums-right, costs-more, starts-more}
+use Rattle.recurrence.specs.Weight.{mostEach, Tails, levelCost}
+use Rattle.recurrence.proofs.Entries.{Held, sums-right, costs-more, starts-more}
 use Rattle.recurrence.proofs.Weight.{tails-pairs, tail-small, cost-small}
 use Rattle.recurrence.proofs.fill_tables.Statement.{statement}
 use Rattle.recurrence.proofs.fill_tables.Tie as tie
 
 abbrev Inv-loop : tie.InvT-loop
-Inv-loop k u dmax costs₀ starts₀ n a₀ c₀ t₀ costs starts a c t =
+Inv-loop k u dmax costs₀ starts₀ n size a₀ c₀ t₀ costs starts a c t =
     (t ≤ n)
-    × (costs ≡ fill 8 n dmax (costAt (levelCost k u) 1) t costs₀)
-    × (starts ≡ fill 2 n dmax (startAt (levelCost k u) 1) t starts₀)
-    × (length a ≡ 400)
-    × (length c ≡ 400)
-    × ((s : ℕ) → s < t → getD a s 0 ≡ tail k u s t)
+    × (costs ≡ fill costBytes n dmax (costAt (levelCost k u) leastLength) t costs₀)
+    × (starts ≡ fill startBytes n dmax (startAt (levelCost k u) leastLength) t starts₀)
+    × (length a ≡ mostObservations)
+    × (length c ≡ mostObservations)
+    × Tails k u t a
     × ((s : ℕ) → s < t → getD c s 0 ≡ levelCost k u s t)
 
 abbrev μ-loop : tie.MeasureT-loop
-μ-loop k u dmax costs₀ starts₀ n a₀ c₀ t₀ costs starts a c t = n - t
+μ-loop k u dmax costs₀ starts₀ n size a₀ c₀ t₀ costs starts a c t = n - t
 
--- What the head of the loop knows.
-abbrev w : tie.At-loop Inv-loop μ-loop → ℕ → ℕ → ℕ
-w h = levelCost (h .before .before .before .before .args .k) (h .before .before .before .before .args .u .now)
-
-small : (h : tie.At-loop Inv-loop μ-loop) → Within (w h) 16384000000000000 1 0 (length (h .before .before .before .before .args .u .now))
-small h =
+-- what the head of the loop knows of the tables
+held : (h : tie.At-loop Inv-loop μ-loop) →
+    let a = h .before .before .before .before .args in
+    Held (levelCost (a .k) (a .u .now)) mostEach leastLength (length (a .u .now)) (a .dmax) (h .loop .t) (a .costs .now) (h .loop .costs) (h .loop .c)
+held h =
     let b = h .before .before .before .before in
-    λ s t _ p q. cost-small (b .args .k) (b .args .u .now) (b .pre .1) s t (omega arith) q
-
-few : (h : tie.At-loop Inv-loop μ-loop) → 16384000000000000 * length (h .before .before .before .before .args .u .now) < 2 ^ 63
-few h = omega arith
+    record {
+      some = omega arith;
+      each = cost-small (b .args .k) (b .args .u .now) (b .pre .1) leastLength (omega arith);
+      whole = omega arith;
+      space = omega arith;
+      upto = h .loop .inv .0;
+      filled = h .loop .inv .1;
+      priced = h .loop .inv .6;
+    }
 
 long : (h : tie.At-loop Inv-loop μ-loop) →
     (length (h .loop .costs) ≡ length (h .before .before .before .before .args .costs .now))
     × (length (h .loop .starts) ≡ length (h .before .before .before .before .args .starts .now))
-long h = (ap length (h .loop .inv .1) ∙ fill-length 8 _ _ _ _ _, ap length (h .loop .inv .2) ∙ fill-length 2 _ _ _ _ _)
-
-sums : (h : tie.At-loop Inv-loop μ-loop) → Sums (h .loop .costs) (h .loop .c) (length (h .before .before .before .before .args .u .now)) (h .loop .t) (h .before .before .before .before .args .dmax)
-sums h =
-    let a = h .before .before .before .before .args in
-    let l = h .loop in
-    rw (l .inv .1) (sums-right (w h) 16384000000000000 _ (small h) (few h) (a .dmax) (l .t) (a .costs .now) (l .c) (omega arith) (l .inv .0) (l .inv .6))
-
--- what the next column is, once `column` has filled it
-next-costs : (h : tie.At-loop Inv-loop μ-loop) (xs : List ℕ) →
-    let a = h .before .before .before .before .args in
-    let n = length (a .u .now) in
-    xs ≡ fillColumn 8 n (cellCost (h .loop .costs) (h .loop .c) n (h .loop .t)) (h .loop .t) (a .dmax) (h .loop .costs) →
-    xs ≡ fill 8 n (a .dmax) (costAt (w h) 1) (h .loop .t + 1) (a .costs .now)
-next-costs h xs e =
-    let a = h .before .before .before .before .args in
-    let l = h .loop in
-    (rw (l .inv .1) at e) ∙ costs-more (w h) 16384000000000000 _ (small h) (few h) (a .dmax) (l .t) (a .costs .now) (l .c) (omega arith) (l .inv .0) (l .inv .6)
-
-next-starts : (h : tie.At-loop Inv-loop μ-loop) (ys : List ℕ) →
-    let a = h .before .before .before .before .args in
-    let n = length (a .u .now) in
-    ys ≡ fillColumn 2 n (cellStart (h .loop .costs) (h .loop .c) n (h .loop .t)) (h .loop .t) (a .dmax) (h .loop .starts) →
-    ys ≡ fill 2 n (a .dmax) (startAt (w h) 1) (h .loop .t + 1) (a .starts .now)
-next-starts h ys e =
-    let a = h .before .before .before .before .args in
-    let l = h .loop in
-    (rw (l .inv .1, l .inv .2) at e) ∙ starts-more (w h) 16384000000000000 _ (small h) (few h) (a .dmax) (l .t) (a .costs .now) (l .c) (omega arith) (l .inv .0) (l .inv .6) (a .starts .now)
+long h = (ap length (h .loop .inv .1) ∙ fill-length costBytes _ _ _ _ _, ap length (h .loop .inv .2) ∙ fill-length startBytes _ _ _ _ _)
 
 loop-holds : tie.Need-loop-holds Inv-loop μ-loop
-loop-holds c = (omega arith, sym (fill-none 8 _ _ _ _), sym (fill-none 2 _ _ _ _), refl, refl, λ s h. omega arith, λ s h. omega arith)
+loop-holds c = (omega arith, sym (fill-none costBytes _ _ _ _), sym (fill-none startBytes _ _ _ _), refl, refl, λ s h. omega arith, λ s h. omega arith)
 
 column-requires : tie.Need-column-requires Inv-loop μ-loop
 column-requires c κs =
     let h = c .before .before .before .before in
-    ((omega arith, omega arith, omega arith, omega (arith, long h), omega (arith, long h)), sums h)
+    (((omega arith, omega arith, omega (arith, long h), omega (arith, long h)), omega arith), sums-right (held h))
 
 slice-aggregate-grow : tie.Need-slice-aggregate-grow Inv-loop μ-loop
 slice-aggregate-grow c = sym (c .before .before .before .before .before .before .before .before .before .before .loop .inv .3)
@@ -124,8 +99,8 @@ loop-again c =
     in
     let col = c .before .before .before .before .before .before .before .before .before .before .before .column in (
       omega (arith, c .before .before .before .before .before .before .before .before .before .before .before .before .before .before .before),
-      next-costs h _ (col .ensures .0),
-      next-starts h _ (col .ensures .1),
+      costs-more (held h) _ (col .ensures .0),
+      starts-more (held h) _ _ _ (l .inv .2) (col .ensures .1),
       g .kept .1 .1 .0 ∙ l .inv .3,
       p .kept .1 .0 ∙ l .inv .4,
       g .ensures,
@@ -137,7 +112,7 @@ loop-again c =
 column-requires-2 : tie.Need-column-requires-2 Inv-loop μ-loop
 column-requires-2 c κs =
     let h = c .before .before .before .before in
-    ((omega arith, omega arith, omega arith, omega (arith, long h), omega (arith, long h)), sums h)
+    (((omega arith, omega arith, omega (arith, long h), omega (arith, long h)), omega arith), sums-right (held h))
 
 same-length : tie.Need-same-length Inv-loop μ-loop
 same-length c = c .before .before .before .before .column2 .kept .0 ∙ long (c .before .before .before .before .before .before .before .before .before) .0
@@ -150,7 +125,7 @@ returns c =
     let h = c .before .before .before .before .before .before .before .before .before in
     let col = c .before .before .before .before .column2 in
     let e : h .loop .t ≡ length (h .before .before .before .before .args .u .now) = omega (arith, h, c .before .before .before .before .before .before .before .before) in
-    (rw e at (next-costs h _ (col .ensures .0)), rw e at (next-starts h _ (col .ensures .1)))
+    (rw e at (costs-more (held h) _ (col .ensures .0)), rw e at (starts-more (held h) _ _ _ (h .loop .inv .2) (col .ensures .1)))
 
 pub fill-tables-spec : {M : Type 1} → statement M
 fill-tables-spec =

@@ -58,7 +58,7 @@ add-a c =
       l .inv .3 (l .s) (omega arith) (omega arith),
       tail-small (a .k) u (b .pre .1 .0) (l .s) (a .t) (omega arith) (omega arith),
       c .distance .ensures,
-      between-small (a .k) u (b .pre .1 .0) (getD u (l .s) 0) (getD u (a .t) 0) (b .pre .1 .0 (l .s) (omega arith)) (b .pre .1 .0 (a .t) (omega arith)),
+      between-small (a .k) (getD u (l .s) 0) (getD u (a .t) 0) (b .pre .1 .0 (l .s) (omega arith)) (b .pre .1 .0 (a .t) (omega arith)),
     )
 
 mul-a-2 : tie.Need-mul-a-2 Inv-loop μ-loop

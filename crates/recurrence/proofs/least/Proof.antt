@@ -4,8 +4,9 @@ use native.Mathlib.Omega.{arith}
 use mathlib.Core.Path.{_≡_, refl, _∙_, ap}
 use denote.Ref.{now}
 use mathlib.Core.Logic.{⊎-elim}
-use Rattle.cutting.proofs.Scan.{Found, found-first, found-lower, found-keep}
-use Rattle.recurrence.specs.Cell.{sumAt}
+use Rattle.cutting.specs.Recurrence.{Found}
+use Rattle.cutting.proofs.Scan.{found-first, found-lower, found-keep}
+use Rattle.recurrence.specs.Column.{sumAt}
 use Rattle.recurrence.proofs.least.Statement.{statement}
 use Rattle.recurrence.proofs.least.Tie as tie
 

@@ -8,8 +8,9 @@ use lib.ListN.{length, getD, length-set}
 use lib.Seq.{slice}
 use denote.Ref.{now}
 use Rattle.table.proofs.Num.{set-back}
+use Rattle.cutting.specs.Limits.{mostObservations}
 use Rattle.kernel.specs.Cost.{unitsOf}
-use Rattle.recurrence.specs.Weight.{total}
+use Rattle.recurrence.specs.Weight.{mostTail, mostEach, total}
 use Rattle.recurrence.proofs.Weight.{total-none, total-more, total-small}
 use Rattle.recurrence.proofs.price.Statement.{statement}
 use Rattle.recurrence.proofs.price.Tie as tie
@@ -37,12 +38,12 @@ module _ (c : tie.In-loop Inv-loop μ-loop) where
       let e : suc (l .s - 1) ≡ l .s = omega arith in
       omega (arith, total-more (now (a .a)) (a .t) (omega arith) (l .s - 1) (omega arith), ap (λ (i : ℕ). total (slice i (a .t) (now (a .a)))) e)
 
-  summed-small : summed ≤ (c .before .loop .m + 1) * 1600000000000000
+  summed-small : summed ≤ (c .before .loop .m + 1) * mostTail
   summed-small =
       let b = c .before .before .before .before in
-      omega (arith, summed-is, total-small (now (b .args .a)) (b .args .t) (omega arith) 1600000000000000 (b .pre .1) (c .before .loop .m + 1) (c .before .loop .s - 1) (omega arith))
+      omega (arith, summed-is, total-small (now (b .args .a)) (b .args .t) (omega arith) mostTail (b .pre .1) (c .before .loop .m + 1) (c .before .loop .s - 1) (omega arith))
 
-  cost-small : unitsOf summed (c .before .loop .m + 1) ≤ 6553600000000000000
+  cost-small : unitsOf summed (c .before .loop .m + 1) ≤ mostEach * mostObservations
   cost-small = div-le-of-le-mul (c .before .loop .m + 1) (omega (arith, summed-small))
 
 loop-holds : tie.Need-loop-holds Inv-loop μ-loop
