@@ -1,5 +1,5 @@
 # checks.sh, to be sourced by run: what is tried beside the harness's cases. Counts in
-# passed and failed. Uses root, made, ARCHIVE and the programs that run has made.
+# passed and failed. Uses root, made, rust, ARCHIVE and the programs that run has made.
 
 passed=0 failed=0
 newline='
@@ -143,7 +143,7 @@ rules_example() {
 # Whether the C example and the second program print what cuts prints.
 same_text() { # FILE
     "$made/cuts.sh" <"$1" >"$made/cuts.text"
-    "$made/cuts_of_file.sh" <"$1" | diff "$made/cuts.text" - && "$made/second" <"$1" | diff "$made/cuts.text" -
+    "$made/cuts_of_file.sh" <"$1" | diff "$made/cuts.text" - && "$rust/second" <"$1" | diff "$made/cuts.text" -
 }
 
 example_is_made() { "$made/make_record.sh" <"$root/examples/year.txt" | cmp - "$root/examples/year.record"; }

@@ -9,8 +9,8 @@ pub struct Options {
     pub seed: u64,
     /// Only this case.
     pub case: Option<usize>,
-    /// Only families whose name has these words.
-    pub only: Option<String>,
+    /// Only families whose name has one of these words, if there are any.
+    pub only: Vec<String>,
     /// Only each case whose number this divides.
     pub every: usize,
     /// Passed and failed checks made before, to be counted in the last line.
@@ -18,12 +18,17 @@ pub struct Options {
 }
 
 pub const USAGE: &str =
-    "harness --driver PATH --cuts PATH [--seed S] [--case N] [--only WORDS] [--every K] [--carried P,F]";
+    "harness --driver PATH --cuts PATH [--seed S] [--case N] [--only WORDS]... [--every K] [--carried P,F]";
 
 impl Options {
     /// Whether all cases are asked for.
     pub fn whole(&self) -> bool {
-        self.case.is_none() && self.only.is_none() && self.every == 1
+        self.case.is_none() && self.only.is_empty() && self.every == 1
+    }
+
+    /// Whether families of the name are asked for.
+    pub fn wants(&self, family: &str) -> bool {
+        self.only.is_empty() || self.only.iter().any(|words| family.contains(words))
     }
 
     pub fn from(arguments: impl Iterator<Item = String>) -> Option<Options> {
@@ -32,7 +37,7 @@ impl Options {
             program: PathBuf::new(),
             seed: 1,
             case: None,
-            only: None,
+            only: Vec::new(),
             every: 1,
             carried: (0, 0),
         };
@@ -49,7 +54,7 @@ impl Options {
             "--cuts" => self.program = PathBuf::from(value),
             "--seed" => self.seed = value.parse().ok()?,
             "--case" => self.case = Some(value.parse().ok()?),
-            "--only" => self.only = Some(value),
+            "--only" => self.only.push(value),
             "--every" => self.every = value.parse().ok().filter(|&every| every > 0)?,
             "--carried" => {
                 let (passed, failed) = value.split_once(',')?;
