@@ -6,6 +6,7 @@ use crate::records::{body, Record};
 use crate::request::Request;
 use crate::rng::Rng;
 use second::calls::STARTS_OUT;
+use second::cuttings::MOST;
 use second::number::number;
 use second::record::Asked;
 
@@ -48,7 +49,7 @@ pub fn record_case(rng: &mut Rng, index: usize, peers: &mut Peers) -> Outcome {
     let read = Request::read_cuts(left.slices[2].clone(), samples.len() as u64, count, kernel, out);
     let left = peers.call_for(0, &read)?;
     let walked: Vec<u64> = left.slices[1].chunks(2).map(number).collect();
-    let due = [starts, &[0; 12][starts.len()..]].concat();
+    let due = [starts, &[0; MOST][starts.len()..]].concat();
     if (found, &walked) == (cost, &due) {
         Ok(())
     } else {

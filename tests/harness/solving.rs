@@ -5,14 +5,14 @@ use crate::records::{length, Look, Record, LIMIT, LOOKS};
 use crate::request::{Left, Request};
 use crate::rng::Rng;
 use second::calls::STARTS_OUT;
-use second::cuttings::choices;
+use second::cuttings::{choices, MOST};
 use second::gram::SegmentCosts;
 use second::number::number;
 use second::record::Asked;
 
 /// Something asked about a record of n observations that is not refused.
 pub fn fit(rng: &mut Rng, n: usize) -> Asked {
-    let widest = n.min(12);
+    let widest = n.min(MOST);
     let most = if rng.chance(60) { widest } else { 1 + rng.below(widest) };
     Asked { kind: rng.below(2) as u64, kernel: 1 + rng.below(3) as u64, most: most as u64 }
 }
@@ -75,7 +75,7 @@ pub const LONGEST: usize = LOOKS.len() * 3 * 2 * 2;
 pub fn longest(rng: &mut Rng, index: usize, peers: &mut Peers) -> Outcome {
     let look = LOOKS[index % LOOKS.len()];
     let rest = index / LOOKS.len();
-    let asked = Asked { kind: (rest / 3 % 2) as u64, kernel: 1 + (rest % 3) as u64, most: 12 };
+    let asked = Asked { kind: (rest / 3 % 2) as u64, kernel: 1 + (rest % 3) as u64, most: MOST as u64 };
     let record = Record::new(rng, look, 399 + rest / 6);
     solve_and_read(rng, peers, &record, asked)
 }
