@@ -63,6 +63,7 @@ check_archive() {
     check "the archive needs memory functions only" needs_only_memory_functions
     check "the archive keeps no state" has_no_state
     check "the archive has the functions" has_the_functions
+    check "calls at the same time" "$made/together.sh"
     check "the header in C" header_alone c "$CC" -std=c99
     if command -v c++ >/dev/null 2>&1; then check "the header in C++" header_alone c++ c++ -std=c++11; fi
 }
