@@ -105,7 +105,7 @@ pub fn file_of(entries: &[Entry]) -> Vec<u8> {
 }
 
 /// Increasing term numbers.
-pub fn terms(rng: &mut Rng, count: usize) -> Vec<u16> {
+fn terms(rng: &mut Rng, count: usize) -> Vec<u16> {
     let widest = rng.pick(&[1, 5, 65_536 / count]);
     let mut term = rng.below(65_536 - widest * count + widest);
     let mut terms = Vec::new();

@@ -1,4 +1,4 @@
-//! The harness's arguments.
+//! The harness's arguments: those of tests/run, and those that tests/run adds.
 
 use std::path::PathBuf;
 
@@ -6,6 +6,8 @@ use std::path::PathBuf;
 pub struct Options {
     pub driver: PathBuf,
     pub program: PathBuf,
+    /// The command that compares the same two sides again.
+    pub again: String,
     pub seed: u64,
     /// Only this case.
     pub case: Option<usize>,
@@ -17,8 +19,7 @@ pub struct Options {
     pub carried: (usize, usize),
 }
 
-pub const USAGE: &str =
-    "harness --driver PATH --cuts PATH [--seed S] [--case N] [--only WORDS]... [--every K] [--carried P,F]";
+pub const USAGE: &str = "tests/run [--stand-in FOLDER] [--seed S] [--case N] [--only WORDS]... [--every K]";
 
 impl Options {
     /// Whether all cases are asked for.
@@ -35,6 +36,7 @@ impl Options {
         let mut options = Options {
             driver: PathBuf::new(),
             program: PathBuf::new(),
+            again: String::new(),
             seed: 1,
             case: None,
             only: Vec::new(),
@@ -52,6 +54,7 @@ impl Options {
         match name {
             "--driver" => self.driver = PathBuf::from(value),
             "--cuts" => self.program = PathBuf::from(value),
+            "--again" => self.again = value,
             "--seed" => self.seed = value.parse().ok()?,
             "--case" => self.case = Some(value.parse().ok()?),
             "--only" => self.only.push(value),

@@ -98,7 +98,7 @@ pub fn example() -> Vec<u8> {
 }
 
 /// What `cuts` prints for the example, to the byte.
-pub const EXAMPLE_TEXT: &str = "term 5 code 0 place 0\n1 273066\n2 0 2:12\n";
+const EXAMPLE_TEXT: &str = "term 5 code 0 place 0\n1 273066\n2 0 2:12\n";
 
 pub fn example_case(_: &mut Rng, index: usize, peers: &mut Peers) -> Outcome {
     let feeding = if index == 0 { Feeding::AtOnce } else { Feeding::InPieces(index) };

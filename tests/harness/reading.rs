@@ -11,7 +11,7 @@ use second::number::number;
 use second::record::OBSERVATION;
 
 /// Three small records, the second of one observation, in 110 bytes; the same for every seed.
-pub fn three() -> Vec<u8> {
+fn three() -> Vec<u8> {
     let record =
         |term, most, samples: &[i64]| Entry { term, kernel: 1, kind: 0, most, body: Record::of(samples).body(0) };
     file_of(&[record(3, 2, &[4, 4]), record(256, 1, &[-7]), record(65_535, 3, &[0, 9, 9])])

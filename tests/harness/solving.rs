@@ -18,14 +18,14 @@ pub fn fit(rng: &mut Rng, n: usize) -> Asked {
 }
 
 /// A lent table of noise: the entries, now and then more of them, and spare bytes.
-pub fn table(rng: &mut Rng, entries: usize, width: usize) -> Vec<u8> {
+fn table(rng: &mut Rng, entries: usize, width: usize) -> Vec<u8> {
     let more = if rng.chance(30) { rng.below(20) } else { 0 };
     let spare = rng.below(width);
     rng.bytes(width * (entries + more) + spare)
 }
 
 /// Solves a record into tables of noise.
-pub fn solve(rng: &mut Rng, peers: &mut Peers, record: &Record, asked: Asked) -> Result<Left, String> {
+fn solve(rng: &mut Rng, peers: &mut Peers, record: &Record, asked: Asked) -> Result<Left, String> {
     let entries = asked.most as usize * (record.n() + 1);
     let costs = table(rng, entries, 8);
     let starts = table(rng, entries, 2);
@@ -33,7 +33,7 @@ pub fn solve(rng: &mut Rng, peers: &mut Peers, record: &Record, asked: Asked) ->
 }
 
 /// Solves a record and reads the cuts off the start table that the real solve left.
-pub fn solve_and_read(rng: &mut Rng, peers: &mut Peers, record: &Record, asked: Asked) -> Outcome {
+fn solve_and_read(rng: &mut Rng, peers: &mut Peers, record: &Record, asked: Asked) -> Outcome {
     let left = solve(rng, peers, record, asked)?;
     let most = asked.most as usize;
     let counts: Vec<usize> = if record.n() <= 24 { (1..=most).collect() } else { vec![most, 1 + rng.below(most)] };

@@ -8,7 +8,7 @@ use crate::{refuse_if, Refusal};
 pub const LONGEST: usize = 65_536;
 
 /// The most records of a file.
-pub const MOST_RECORDS: usize = 64;
+const MOST_RECORDS: usize = 64;
 
 /// The width of the count of records.
 pub const COUNT: usize = 2;
