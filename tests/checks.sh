@@ -1,5 +1,5 @@
 # checks.sh, to be sourced by run: what is tried beside the harness's cases. Counts in
-# passed and failed. Uses root, made, ARCHIVE and the programs that run has made.
+# passed and failed. Uses root, made, rust, ARCHIVE and the programs that run has made.
 
 passed=0 failed=0
 newline='
@@ -63,6 +63,7 @@ check_archive() {
     check "the archive needs memory functions only" needs_only_memory_functions
     check "the archive keeps no state" has_no_state
     check "the archive has the functions" has_the_functions
+    check "calls at the same time" "$made/together.sh"
     check "the header in C" header_alone c "$CC" -std=c99
     if command -v c++ >/dev/null 2>&1; then check "the header in C++" header_alone c++ c++ -std=c++11; fi
 }
@@ -143,7 +144,7 @@ rules_example() {
 # Whether the C example and the second program print what cuts prints.
 same_text() { # FILE
     "$made/cuts.sh" <"$1" >"$made/cuts.text"
-    "$made/cuts_of_file.sh" <"$1" | diff "$made/cuts.text" - && "$made/second" <"$1" | diff "$made/cuts.text" -
+    "$made/cuts_of_file.sh" <"$1" | diff "$made/cuts.text" - && "$rust/second" <"$1" | diff "$made/cuts.text" -
 }
 
 example_is_made() { "$made/make_record.sh" <"$root/examples/year.txt" | cmp - "$root/examples/year.record"; }

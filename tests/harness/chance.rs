@@ -1,11 +1,14 @@
 //! Calls and files drawn so that every reply comes about by chance.
 
-use crate::files::{bodies, file_of, lent_entries, of_lengths, put, sound, Entry, ENTRY, OBSERVATION};
+use crate::files::{bodies, file_of, lent_entries, of_lengths, put, sound, Entry, LENGTH};
 use crate::peers::{Outcome, Peers};
 use crate::records::{Record, LOOKS};
 use crate::request::Request;
 use crate::rng::Rng;
-use second::record::Asked;
+use second::calls::STARTS_OUT;
+use second::cuttings::MOST;
+use second::file::{COUNT, FILE_ENTRY};
+use second::record::{Asked, OBSERVATION};
 
 /// Flips bits, overwrites, cuts and extends, a few times in all.
 fn damage(rng: &mut Rng, bytes: &mut Vec<u8>, often: usize) {
@@ -51,7 +54,7 @@ pub fn solve(rng: &mut Rng, _: usize, peers: &mut Peers) -> Outcome {
     let asked = Asked {
         kind: small(rng, 1),
         kernel: if rng.chance(85) { 1 + rng.below(3) as u64 } else { small(rng, 4) },
-        most: small(rng, (n + 1).min(13)),
+        most: small(rng, (n + 1).min(MOST + 1)),
     };
     let mut body = Record::new(rng, look, n).body(asked.kind);
     if n > 0 && rng.chance(30) {
@@ -59,17 +62,17 @@ pub fn solve(rng: &mut Rng, _: usize, peers: &mut Peers) -> Outcome {
         put(&mut body, OBSERVATION * rng.below(n) + 4, 8, mostly_ones);
     }
     damage(rng, &mut body, 2);
-    let entries = asked.most.min(12) as usize * (n + 1);
+    let entries = asked.most.min(MOST as u64) as usize * (n + 1);
     let (costs, starts) = (round(rng, 8 * entries), round(rng, 2 * entries));
     peers.call(&Request::solve(body, asked, rng.bytes(costs), rng.bytes(starts))).map(|_| ())
 }
 
 pub fn read_cuts(rng: &mut Rng, _: usize, peers: &mut Peers) -> Outcome {
     let n = length(rng);
-    let count = small(rng, (n + 1).min(13));
+    let count = small(rng, (n + 1).min(MOST + 1));
     let kernel = if rng.chance(85) { 1 + rng.below(3) as u64 } else { small(rng, 4) };
     let columns = n + 1;
-    let entries = count.min(12) as usize * columns;
+    let entries = count.min(MOST as u64) as usize * columns;
     let near = |entry: usize| entry % columns / 2 + entry / columns / 2;
     let mut starts: Vec<u8> = (0..entries).flat_map(|entry| (near(entry) as u16).to_le_bytes()).collect();
     if let Some(first) = starts.get_mut(..2 * columns) {
@@ -77,7 +80,7 @@ pub fn read_cuts(rng: &mut Rng, _: usize, peers: &mut Peers) -> Outcome {
     }
     damage(rng, &mut starts, 1);
     let n = if rng.chance(5) { rng.next() } else { n as u64 };
-    let out = round(rng, 24);
+    let out = round(rng, STARTS_OUT);
     peers.call(&Request::read_cuts(starts, n, count, kernel, rng.bytes(out))).map(|_| ())
 }
 
@@ -85,7 +88,7 @@ pub fn read_cuts(rng: &mut Rng, _: usize, peers: &mut Peers) -> Outcome {
 pub fn damaged_file(rng: &mut Rng) -> Vec<u8> {
     let count = if rng.chance(10) { 60 + rng.below(8) } else { 1 + rng.below(5) };
     let mut file = file_of(&sound_and_short(rng, count));
-    let mut head: Vec<u8> = file.drain(..(2 + ENTRY * count).min(file.len())).collect();
+    let mut head: Vec<u8> = file.drain(..(COUNT + FILE_ENTRY * count).min(file.len())).collect();
     match rng.below(4) {
         0 => damage(rng, &mut file, 3),
         1 => damage(rng, &mut head, 2),
@@ -123,10 +126,10 @@ pub fn write_file(rng: &mut Rng, _: usize, peers: &mut Peers) -> Outcome {
     let fitting = file_of(&entries).len();
     if rng.chance(5) {
         let more = 5_400 + rng.below(300);
-        run.extend(rng.bytes(12 * more));
-        let last = lent.len() - 2;
-        let n = entries[count - 1].body.len() / 12 + more;
-        lent[last..].copy_from_slice(&(n as u16).to_le_bytes());
+        run.extend(rng.bytes(OBSERVATION * more));
+        let n = entries[count - 1].body.len() / OBSERVATION + more;
+        let last = lent.len() - LENGTH.1;
+        put(&mut lent, last, LENGTH.1, n as u64);
     }
     damage(rng, &mut lent, 1);
     if rng.chance(20) {

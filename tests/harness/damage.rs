@@ -5,6 +5,7 @@ use crate::records::{bits, body, Look, Record, LIMIT};
 use crate::request::Request;
 use crate::rng::Rng;
 use crate::solving::fit;
+use second::cuttings::MOST;
 use second::record::Asked;
 
 /// A solve in the making.
@@ -97,7 +98,7 @@ impl Draft {
     fn request(&self, rng: &mut Rng) -> Request {
         let mut lent = body(&self.days, self.bits.iter().copied());
         lent.truncate(lent.len().saturating_sub(self.body_short));
-        let entries = self.asked.most.min(12) as usize * (self.days.len() + 1);
+        let entries = self.asked.most.min(MOST as u64) as usize * (self.days.len() + 1);
         let costs = rng.bytes((8 * entries).saturating_sub(self.costs_short));
         let starts = rng.bytes((2 * entries).saturating_sub(self.starts_short));
         Request::solve(lent, self.asked, costs, starts)

@@ -2,6 +2,7 @@
 
 use crate::request::{Call, Left, Request};
 use second::number::number;
+use second::record::OBSERVATION;
 
 /// The first difference in words, or none.
 pub fn between(request: &Request, expected: &Left, got: &Left) -> Option<String> {
@@ -36,7 +37,7 @@ fn entry_words(request: &Request, which: usize, place: usize, expected: &[u8], g
     }
     let width = if which == 1 { 8 } else { 2 };
     let entry = place / width;
-    let columns = request.slices[0].len() / 12 + 1;
+    let columns = request.slices[0].len() / OBSERVATION + 1;
     let bytes = entry * width..(entry * width + width).min(expected.len());
     format!(
         "; row D = {}, column t = {}: expected {}, got {}",

@@ -5,7 +5,7 @@ use crate::records::{Look, Record, LOOKS};
 use crate::request::Request;
 use crate::rng::Rng;
 use second::calls::STARTS_OUT;
-use second::record::Asked;
+use second::record::{Asked, OBSERVATION};
 
 /// Values that a 64-bit number would take on if it were cut to fewer bits.
 const WIDE: [u64; 8] = [256 + 1, 256 + 2, 65_536 + 1, 65_536 + 12, 1 << 32 | 1, 1 << 32 | 12, 1 << 63 | 1, u64::MAX];
@@ -22,17 +22,20 @@ fn entries(n: usize, most: u64) -> usize {
 
 const LENGTHS: [usize; 12] = [0, 1, 2, 3, 11, 12, 13, 14, 398, 399, 400, 401];
 
+/// How many counts of segments are tried for each length.
+const COUNTS: usize = 9 + WIDE.len();
+
 fn counts(n: usize) -> Vec<u64> {
     let n = n as u64;
     [&[0, 1, 2, 11, 12, 13, n.saturating_sub(1), n, n + 1][..], &WIDE].concat()
 }
 
 /// Every length with every count of segments.
-pub const LENGTHS_AND_COUNTS: usize = LENGTHS.len() * 17;
+pub const LENGTHS_AND_COUNTS: usize = LENGTHS.len() * COUNTS;
 
 pub fn lengths_and_counts(rng: &mut Rng, index: usize, peers: &mut Peers) -> Outcome {
-    let n = LENGTHS[index / 17];
-    let most = counts(n)[index % 17];
+    let n = LENGTHS[index / COUNTS];
+    let most = counts(n)[index % COUNTS];
     let record = Record::new(rng, LOOKS[index % LOOKS.len()], n);
     let asked = Asked { kind: index as u64 % 2, kernel: 1 + index as u64 % 3, most };
     let (costs, starts) = (lent(rng, 8 * entries(n, most), 0), lent(rng, 2 * entries(n, most), 0));
@@ -60,11 +63,11 @@ pub fn kinds_and_kernels(rng: &mut Rng, index: usize, peers: &mut Peers) -> Outc
 const WALK_LENGTHS: [u64; 8] = [0, 1, 2, 12, 13, 400, 401, 65_535];
 
 /// Every n with every count, and kernels in turn, for reading cuts.
-pub const WALK_NUMBERS: usize = (WALK_LENGTHS.len() + WIDE.len()) * 17;
+pub const WALK_NUMBERS: usize = (WALK_LENGTHS.len() + WIDE.len()) * COUNTS;
 
 pub fn walk_numbers(rng: &mut Rng, index: usize, peers: &mut Peers) -> Outcome {
-    let n = with_wide(&WALK_LENGTHS)[index / 17];
-    let count = counts(n.min(401) as usize)[index % 17];
+    let n = with_wide(&WALK_LENGTHS)[index / COUNTS];
+    let count = counts(n.min(401) as usize)[index % COUNTS];
     let kernel = with_wide(&KERNELS)[rng.pick(&[1, 2, 3, index % 16])];
     let starts = lent(rng, 2 * entries(n.min(400) as usize, count), 0);
     peers.call(&Request::read_cuts(starts, n, count, kernel, rng.bytes(STARTS_OUT))).map(|_| ())
@@ -77,9 +80,9 @@ pub fn body_lengths(rng: &mut Rng, index: usize, peers: &mut Peers) -> Outcome {
     let length = match index {
         0..=60 => index,
         61..=109 => 4776 + (index - 61),
-        _ => [12 * 512, 12 * 512 + 1, 65_536, 120_000, 1_000_000][index - 110],
+        _ => [OBSERVATION * 512, OBSERVATION * 512 + 1, 65_536, 120_000, 1_000_000][index - 110],
     };
-    let n = length / 12;
+    let n = length / OBSERVATION;
     let record = Record::new(rng, Look::Uniform, n + 1);
     let mut body = record.body(0);
     body.truncate(length);

@@ -2,11 +2,9 @@
 
 use crate::records::{bits, length, Record, LIMIT, LOOKS};
 use crate::rng::Rng;
-
-/// The widths of a file's parts.
-pub const COUNT: usize = 2;
-pub const ENTRY: usize = 12;
-pub const OBSERVATION: usize = 12;
+use second::cuttings::MOST as MOST_SEGMENTS;
+use second::file::{COUNT, FILE_ENTRY};
+use second::record::OBSERVATION;
 
 /// A field of an entry: its place from the entry's start, and its width.
 pub type Field = (usize, usize);
@@ -33,7 +31,7 @@ impl Entry {
     pub fn sound(rng: &mut Rng, term: u16, n: usize) -> Entry {
         let look = rng.pick(&LOOKS);
         let kind = rng.below(2) as u8;
-        let most = 1 + rng.below(n.min(12)) as u16;
+        let most = 1 + rng.below(n.min(MOST_SEGMENTS)) as u16;
         let body = Record::new(rng, look, n).body(u64::from(kind));
         Entry { term, kernel: 1 + rng.below(3) as u8, kind, most, body }
     }
@@ -50,7 +48,7 @@ impl Entry {
         match rng.below(8) {
             0 => self.kernel = rng.pick(&[0, 4, 255]),
             1 => self.most = rng.pick(&[0, 13, 256, 257, 65_535]),
-            2 => self.most = 12,
+            2 => self.most = MOST_SEGMENTS as u16,
             3 => self.body.clear(),
             4 => self.kind ^= 1,
             5 => self.put(rng, 0, 4, 0),
@@ -82,7 +80,7 @@ pub fn put(bytes: &mut [u8], at: usize, width: usize, number: u64) {
 
 /// The place of a field of the entry.
 pub fn field_at(entry: usize, field: Field) -> usize {
-    COUNT + ENTRY * entry + field.0
+    COUNT + FILE_ENTRY * entry + field.0
 }
 
 pub fn lent_entries(entries: &[Entry]) -> Vec<u8> {
@@ -95,7 +93,7 @@ pub fn bodies(entries: &[Entry]) -> Vec<u8> {
 
 /// The file of the entries.
 pub fn file_of(entries: &[Entry]) -> Vec<u8> {
-    let mut offset = COUNT + ENTRY * entries.len();
+    let mut offset = COUNT + FILE_ENTRY * entries.len();
     let mut file = (entries.len() as u16).to_le_bytes().to_vec();
     for entry in entries {
         file.extend(entry.lent());
@@ -107,7 +105,7 @@ pub fn file_of(entries: &[Entry]) -> Vec<u8> {
 }
 
 /// Increasing term numbers.
-pub fn terms(rng: &mut Rng, count: usize) -> Vec<u16> {
+fn terms(rng: &mut Rng, count: usize) -> Vec<u16> {
     let widest = rng.pick(&[1, 5, 65_536 / count]);
     let mut term = rng.below(65_536 - widest * count + widest);
     let mut terms = Vec::new();

@@ -40,17 +40,20 @@ fn main() {
     };
     let plan = Plan::whole();
     let cases = chosen(&plan, &options);
+    if cases.is_empty() {
+        eprintln!("no case is of that number or of those words");
+        std::process::exit(2);
+    }
     println!("seed {}: {} cases of {}", options.seed, cases.len(), plan.total());
     let found = workers::run(&plan, &cases, &options);
     let failed = summary::print(&plan, &options, &found);
     std::process::exit(i32::from(failed > 0));
 }
 
-/// The numbers of the cases that are asked for.
+/// The numbers of the cases that are asked for; none where there is no such case.
 fn chosen(plan: &Plan, options: &Options) -> Vec<usize> {
     if let Some(case) = options.case {
-        return vec![case];
+        return (0..plan.total()).filter(|&one| one == case).collect();
     }
-    let wanted = |case: &usize| options.only.as_ref().map_or(true, |words| plan.find(*case).0.name.contains(words));
-    (0..plan.total()).step_by(options.every).filter(wanted).collect()
+    (0..plan.total()).step_by(options.every).filter(|&case| options.wants(plan.find(case).0.name)).collect()
 }

@@ -1,4 +1,4 @@
-//! The harness's arguments.
+//! The harness's arguments: those of tests/run, and those that tests/run adds.
 
 use std::path::PathBuf;
 
@@ -6,33 +6,40 @@ use std::path::PathBuf;
 pub struct Options {
     pub driver: PathBuf,
     pub program: PathBuf,
+    /// The command that compares the same two sides again.
+    pub again: String,
     pub seed: u64,
     /// Only this case.
     pub case: Option<usize>,
-    /// Only families whose name has these words.
-    pub only: Option<String>,
+    /// Only families whose name has one of these words, if there are any.
+    pub only: Vec<String>,
     /// Only each case whose number this divides.
     pub every: usize,
     /// Passed and failed checks made before, to be counted in the last line.
     pub carried: (usize, usize),
 }
 
-pub const USAGE: &str =
-    "harness --driver PATH --cuts PATH [--seed S] [--case N] [--only WORDS] [--every K] [--carried P,F]";
+pub const USAGE: &str = "tests/run [--stand-in FOLDER] [--seed S] [--case N] [--only WORDS]... [--every K]";
 
 impl Options {
     /// Whether all cases are asked for.
     pub fn whole(&self) -> bool {
-        self.case.is_none() && self.only.is_none() && self.every == 1
+        self.case.is_none() && self.only.is_empty() && self.every == 1
+    }
+
+    /// Whether families of the name are asked for.
+    pub fn wants(&self, family: &str) -> bool {
+        self.only.is_empty() || self.only.iter().any(|words| family.contains(words))
     }
 
     pub fn from(arguments: impl Iterator<Item = String>) -> Option<Options> {
         let mut options = Options {
             driver: PathBuf::new(),
             program: PathBuf::new(),
+            again: String::new(),
             seed: 1,
             case: None,
-            only: None,
+            only: Vec::new(),
             every: 1,
             carried: (0, 0),
         };
@@ -47,9 +54,10 @@ impl Options {
         match name {
             "--driver" => self.driver = PathBuf::from(value),
             "--cuts" => self.program = PathBuf::from(value),
+            "--again" => self.again = value,
             "--seed" => self.seed = value.parse().ok()?,
             "--case" => self.case = Some(value.parse().ok()?),
-            "--only" => self.only = Some(value),
+            "--only" => self.only.push(value),
             "--every" => self.every = value.parse().ok().filter(|&every| every > 0)?,
             "--carried" => {
                 let (passed, failed) = value.split_once(',')?;

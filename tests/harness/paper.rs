@@ -6,6 +6,7 @@ use crate::records::{body, Record};
 use crate::request::Request;
 use crate::rng::Rng;
 use second::calls::STARTS_OUT;
+use second::cuttings::MOST;
 use second::number::number;
 use second::record::Asked;
 
@@ -48,7 +49,7 @@ pub fn record_case(rng: &mut Rng, index: usize, peers: &mut Peers) -> Outcome {
     let read = Request::read_cuts(left.slices[2].clone(), samples.len() as u64, count, kernel, out);
     let left = peers.call_for(0, &read)?;
     let walked: Vec<u64> = left.slices[1].chunks(2).map(number).collect();
-    let due = [starts, &[0; 12][starts.len()..]].concat();
+    let due = [starts, &[0; MOST][starts.len()..]].concat();
     if (found, &walked) == (cost, &due) {
         Ok(())
     } else {
@@ -97,7 +98,7 @@ pub fn example() -> Vec<u8> {
 }
 
 /// What `cuts` prints for the example, to the byte.
-pub const EXAMPLE_TEXT: &str = "term 5 code 0 place 0\n1 273066\n2 0 2:12\n";
+const EXAMPLE_TEXT: &str = "term 5 code 0 place 0\n1 273066\n2 0 2:12\n";
 
 pub fn example_case(_: &mut Rng, index: usize, peers: &mut Peers) -> Outcome {
     let feeding = if index == 0 { Feeding::AtOnce } else { Feeding::InPieces(index) };

@@ -7,6 +7,7 @@ use crate::peers::{Outcome, Peers};
 use crate::program::Feeding;
 use crate::reading::of_size;
 use crate::rng::Rng;
+use second::cuttings::MOST;
 
 fn feeding(rng: &mut Rng, length: usize) -> Feeding {
     match rng.below(3) {
@@ -48,7 +49,7 @@ pub fn many_records(rng: &mut Rng, index: usize, peers: &mut Peers) -> Outcome {
     let longest = [1, 12, 84][index % 3];
     let lengths: Vec<usize> = (0..64).map(|_| if longest == 84 { 84 } else { 1 + rng.below(longest) }).collect();
     let mut entries = of_lengths(rng, &lengths);
-    entries.iter_mut().zip(&lengths).for_each(|(entry, &n)| entry.most = n.min(12) as u16);
+    entries.iter_mut().zip(&lengths).for_each(|(entry, &n)| entry.most = n.min(MOST) as u16);
     print(rng, peers, &file_of(&entries))
 }
 
@@ -57,7 +58,7 @@ pub fn largest(rng: &mut Rng, _: usize, peers: &mut Peers) -> Outcome {
     let mut lengths = vec![400; 13];
     lengths.push(5461 - 14 - 13 * 400);
     let mut entries = of_lengths(rng, &lengths);
-    entries.iter_mut().for_each(|entry| entry.most = 12);
+    entries.iter_mut().for_each(|entry| entry.most = MOST as u16);
     let file = file_of(&entries);
     if file.len() != 65_534 {
         return Err(format!("the largest file has {} bytes", file.len()));

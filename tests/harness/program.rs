@@ -11,7 +11,7 @@ pub enum Feeding {
     InPieces(usize),
 }
 
-/// What the program writes for a file; an error where it crashes, complains or does not end.
+/// What the program writes for a file; an error where it fails, crashes, complains or does not end.
 pub fn text_of(program: &Path, file: &[u8], feeding: Feeding) -> Result<String, String> {
     let mut process = Command::new(program)
         .stdin(Stdio::piped())
@@ -30,10 +30,10 @@ pub fn text_of(program: &Path, file: &[u8], feeding: Feeding) -> Result<String, 
     if !ended.stderr.is_empty() {
         return Err(format!("cuts complains: {}", String::from_utf8_lossy(&ended.stderr)));
     }
-    match ended.status.code() {
-        Some(code) if code < 124 => Ok(String::from_utf8_lossy(&printed).into_owned()),
-        _ => Err(format!("cuts crashed or did not end: {}", ended.status)),
+    if !ended.status.success() {
+        return Err(format!("cuts failed, crashed or did not end: {}", ended.status));
     }
+    Ok(String::from_utf8_lossy(&printed).into_owned())
 }
 
 /// Writes the bytes; a program that has read enough may close its input.

@@ -1,16 +1,17 @@
 //! Files read by the C function: sound, and damaged in every way.
 
-use crate::files::{
-    field_at, file_of, of_lengths, put, sound, Entry, Field, COUNT, ENTRY, FIELDS, KIND, LENGTH, OFFSET, TERM,
-};
+use crate::files::{field_at, file_of, of_lengths, put, sound, Entry, Field, FIELDS, KIND, LENGTH, OFFSET, TERM};
 use crate::paper::example;
 use crate::peers::{Outcome, Peers};
 use crate::records::Record;
 use crate::request::Request;
 use crate::rng::Rng;
+use second::file::{COUNT, FILE_ENTRY};
+use second::number::number;
+use second::record::OBSERVATION;
 
 /// Three small records, the second of one observation, in 110 bytes; the same for every seed.
-pub fn three() -> Vec<u8> {
+fn three() -> Vec<u8> {
     let record =
         |term, most, samples: &[i64]| Entry { term, kernel: 1, kind: 0, most, body: Record::of(samples).body(0) };
     file_of(&[record(3, 2, &[4, 4]), record(256, 1, &[-7]), record(65_535, 3, &[0, 9, 9])])
@@ -57,7 +58,7 @@ pub fn swapped(rng: &mut Rng, _: usize, peers: &mut Peers) -> Outcome {
     let count = 2 + rng.below(4);
     let mut file = file_of(&sound(rng, count));
     let width = rng.pick(&[1, 2, 4, 12]);
-    let contents = ENTRY * count / width;
+    let contents = FILE_ENTRY * count / width;
     let (one, other) = (rng.below(contents), rng.below(contents));
     for i in 0..width {
         file.swap(COUNT + width * one + i, COUNT + width * other + i);
@@ -77,7 +78,7 @@ pub fn field_set(_: &mut Rng, index: usize, peers: &mut Peers) -> Outcome {
 
 fn set_beside(file: &mut [u8], entry: usize, field: Field, which: usize) {
     let (at, width) = (field_at(entry, field), field.1);
-    let held = second::number::number(&file[at..at + width]);
+    let held = number(&file[at..at + width]);
     let beside =
         [0, 1, 2, held.wrapping_sub(1), held + 1, held + 12, held.wrapping_sub(12), 1 << (8 * width - 1), u64::MAX];
     put(file, at, width, beside[which]);
@@ -113,12 +114,12 @@ pub const SIZED: usize = SIZES.len() * 2;
 
 /// A file of the length whose bodies are noise: an accepted one has at most 65,534 bytes.
 pub fn of_size(rng: &mut Rng, length: usize, records: usize) -> Vec<u8> {
-    let observations = (length - COUNT) / ENTRY - records;
+    let observations = (length - COUNT) / FILE_ENTRY - records;
     let mut left = observations;
     let mut entries = of_lengths(rng, &vec![1; records]);
     for (place, entry) in entries.iter_mut().enumerate() {
         let most = (left / (records - place)).min(65_535);
-        entry.body = rng.bytes(12 * most);
+        entry.body = rng.bytes(OBSERVATION * most);
         left -= most;
     }
     file_of(&entries)
@@ -144,11 +145,11 @@ const FAULTS: [Fault; 9] = [
     (20, |rng, file, _| file.truncate(rng.below(2))),
     (21, |rng, file, _| put(file, 0, COUNT, rng.pick(&[0, 65, 256, 65_535]))),
     (20, |rng, file, _| {
-        let contents = ENTRY * usize::from(file[0]).min(64);
+        let contents = FILE_ENTRY * usize::from(file[0]).min(64);
         file.truncate(COUNT + rng.below(contents.max(1)));
     }),
     (23, |rng, file, entry| {
-        let before = second::number::number(&file[field_at(entry - 1, TERM)..][..2]);
+        let before = number(&file[field_at(entry - 1, TERM)..][..2]);
         put(file, field_at(entry, TERM), 2, rng.pick(&[before, before.saturating_sub(1), 0]));
     }),
     (24, |rng, file, entry| put(file, field_at(entry, KIND), 1, rng.pick(&[2, 3, 128, 255]))),

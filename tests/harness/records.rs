@@ -97,7 +97,7 @@ pub fn days(rng: &mut Rng, n: usize) -> Vec<u32> {
         .collect()
 }
 
-pub fn samples(rng: &mut Rng, look: Look, n: usize) -> Vec<i64> {
+fn samples(rng: &mut Rng, look: Look, n: usize) -> Vec<i64> {
     match look {
         Look::Tidy => plateaus(rng, n),
         Look::Tied => few(rng, n, 2),

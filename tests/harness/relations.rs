@@ -5,6 +5,7 @@ use crate::records::{length, Record, LIMIT, LOOKS};
 use crate::request::Request;
 use crate::rng::Rng;
 use crate::solving::fit;
+use second::cuttings::MOST;
 use second::number::number;
 use second::record::Asked;
 
@@ -104,16 +105,16 @@ pub fn joining(rng: &mut Rng, _: usize, peers: &mut Peers) -> Outcome {
     let n = 2 + rng.below(18);
     let look = rng.pick(&LOOKS);
     let record = Record::new(rng, look, n);
-    let asked = Asked { most: n.min(12) as u64, ..fit(rng, n) };
+    let asked = Asked { most: n.min(MOST) as u64, ..fit(rng, n) };
     let whole = Solved::of(peers, &record, asked)?;
     let mut sides = Vec::new();
     for place in 1..n {
-        let most = |length: usize| Asked { most: length.min(11) as u64, ..asked };
+        let most = |length: usize| Asked { most: length.min(MOST - 1) as u64, ..asked };
         let before = Solved::of(peers, &record.part(0, place), most(place))?;
         let after = Solved::of(peers, &record.part(place, n), most(n - place))?;
         sides.push((before, after));
     }
-    for sum in 2..=n.min(12) {
+    for sum in 2..=n.min(MOST) {
         for a in 1..sum {
             let joined = joined(&sides, a, sum - a);
             if joined != Some(whole.least(sum)) {

@@ -18,7 +18,7 @@ impl Call {
         ["idle", "solve", "read_cuts", "read_file", "write_file"][self as usize]
     }
 
-    pub fn number_names(self) -> &'static [&'static str] {
+    fn number_names(self) -> &'static [&'static str] {
         match self {
             Call::Solve => &["kind", "kernel", "dmax"],
             Call::ReadCuts => &["n", "d", "kernel"],

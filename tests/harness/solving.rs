@@ -5,27 +5,27 @@ use crate::records::{length, Look, Record, LIMIT, LOOKS};
 use crate::request::{Left, Request};
 use crate::rng::Rng;
 use second::calls::STARTS_OUT;
-use second::cuttings::choices;
+use second::cuttings::{choices, MOST};
 use second::gram::SegmentCosts;
 use second::number::number;
 use second::record::Asked;
 
 /// Something asked about a record of n observations that is not refused.
 pub fn fit(rng: &mut Rng, n: usize) -> Asked {
-    let widest = n.min(12);
+    let widest = n.min(MOST);
     let most = if rng.chance(60) { widest } else { 1 + rng.below(widest) };
     Asked { kind: rng.below(2) as u64, kernel: 1 + rng.below(3) as u64, most: most as u64 }
 }
 
 /// A lent table of noise: the entries, now and then more of them, and spare bytes.
-pub fn table(rng: &mut Rng, entries: usize, width: usize) -> Vec<u8> {
+fn table(rng: &mut Rng, entries: usize, width: usize) -> Vec<u8> {
     let more = if rng.chance(30) { rng.below(20) } else { 0 };
     let spare = rng.below(width);
     rng.bytes(width * (entries + more) + spare)
 }
 
 /// Solves a record into tables of noise.
-pub fn solve(rng: &mut Rng, peers: &mut Peers, record: &Record, asked: Asked) -> Result<Left, String> {
+fn solve(rng: &mut Rng, peers: &mut Peers, record: &Record, asked: Asked) -> Result<Left, String> {
     let entries = asked.most as usize * (record.n() + 1);
     let costs = table(rng, entries, 8);
     let starts = table(rng, entries, 2);
@@ -33,7 +33,7 @@ pub fn solve(rng: &mut Rng, peers: &mut Peers, record: &Record, asked: Asked) ->
 }
 
 /// Solves a record and reads the cuts off the start table that the real solve left.
-pub fn solve_and_read(rng: &mut Rng, peers: &mut Peers, record: &Record, asked: Asked) -> Outcome {
+fn solve_and_read(rng: &mut Rng, peers: &mut Peers, record: &Record, asked: Asked) -> Outcome {
     let left = solve(rng, peers, record, asked)?;
     let most = asked.most as usize;
     let counts: Vec<usize> = if record.n() <= 24 { (1..=most).collect() } else { vec![most, 1 + rng.below(most)] };
@@ -75,7 +75,7 @@ pub const LONGEST: usize = LOOKS.len() * 3 * 2 * 2;
 pub fn longest(rng: &mut Rng, index: usize, peers: &mut Peers) -> Outcome {
     let look = LOOKS[index % LOOKS.len()];
     let rest = index / LOOKS.len();
-    let asked = Asked { kind: (rest / 3 % 2) as u64, kernel: 1 + (rest % 3) as u64, most: 12 };
+    let asked = Asked { kind: (rest / 3 % 2) as u64, kernel: 1 + (rest % 3) as u64, most: MOST as u64 };
     let record = Record::new(rng, look, 399 + rest / 6);
     solve_and_read(rng, peers, &record, asked)
 }

@@ -63,7 +63,7 @@ fn print_failures(plan: &Plan, options: &Options, failures: &[Failure]) -> usize
     for failure in failures.iter().take(SHOWN) {
         let name = plan.find(failure.case).0.name;
         println!("FAILED case {} ({}): {}", failure.case, name, failure.words);
-        println!("  again: tests/run --seed {} --case {}", options.seed, failure.case);
+        println!("  again: {} --seed {} --case {}", options.again, options.seed, failure.case);
     }
     if failures.len() > SHOWN {
         println!("FAILED and {} more cases", failures.len() - SHOWN);

@@ -4,6 +4,8 @@ use crate::peers::{Outcome, Peers};
 use crate::request::Request;
 use crate::rng::Rng;
 use second::calls::STARTS_OUT;
+use second::cuttings::MOST;
+use second::number::number;
 
 /// A start table of any content for n observations and `count` segments.
 struct Table {
@@ -54,7 +56,7 @@ fn size(rng: &mut Rng) -> (usize, usize) {
         1 => 13 + rng.below(300),
         _ => 1 + rng.below(16),
     };
-    (n, 1 + rng.below(n.min(12)))
+    (n, 1 + rng.below(n.min(MOST)))
 }
 
 /// A walk through noise: accepted, whatever stands beside it.
@@ -63,13 +65,11 @@ pub fn laid(rng: &mut Rng, _: usize, peers: &mut Peers) -> Outcome {
     let mut table = Table::of_noise(rng, n, count);
     let steps = table.lay_walk(rng, count, n);
     let left = peers.call_for(0, &table.request(rng))?;
-    for (place, (_, _, start)) in steps.iter().rev().enumerate() {
-        let out = &left.slices[1];
-        if usize::from(out[2 * place]) + 256 * usize::from(out[2 * place + 1]) != *start {
-            return Err(format!("start {} of the walk {:?} is read otherwise", place, steps));
-        }
+    let read = left.slices[1].chunks(2).map(number);
+    match steps.iter().rev().zip(read).position(|((_, _, start), read)| *start as u64 != read) {
+        Some(place) => Err(format!("start {} of the walk {:?} is read otherwise", place, steps)),
+        None => Ok(()),
     }
-    Ok(())
 }
 
 /// A walk with one step moved to an edge of what is allowed, or just past it, and laid on from there.

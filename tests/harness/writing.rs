@@ -1,10 +1,12 @@
 //! Files written by the C function: there and back again, and damaged in every way.
 
-use crate::files::{bodies, file_of, lent_entries, of_lengths, Entry};
+use crate::files::{bodies, file_of, lent_entries, of_lengths, put, Entry, Field, KIND, LENGTH, TERM};
 use crate::peers::{Outcome, Peers};
 use crate::request::Request;
 use crate::rng::Rng;
-use second::file::{parse, LENT_ENTRY};
+use second::file::{parse, LENT_ENTRY, LONGEST};
+use second::number::number;
+use second::record::OBSERVATION;
 
 /// A write in the making.
 struct Draft {
@@ -18,6 +20,15 @@ impl Draft {
         Draft { entries: lent_entries(entries), bodies: bodies(entries), out: file_of(entries).len() }
     }
 
+    /// What a field of a lent entry holds.
+    fn held(&self, entry: usize, field: Field) -> u64 {
+        number(&self.entries[LENT_ENTRY * entry + field.0..][..field.1])
+    }
+
+    fn set(&mut self, entry: usize, field: Field, number: u64) {
+        put(&mut self.entries, LENT_ENTRY * entry + field.0, field.1, number);
+    }
+
     fn request(&self, rng: &mut Rng) -> Request {
         Request::write_file(self.entries.clone(), self.bodies.clone(), rng.bytes(self.out))
     }
@@ -28,7 +39,7 @@ fn drawn(rng: &mut Rng, count: usize) -> Vec<Entry> {
     let mut entries = of_lengths(rng, &vec![1; count]);
     for entry in &mut entries {
         let n = rng.pick(&[0, 1, 1, 2, 5, 30]);
-        entry.body = rng.bytes(12 * n);
+        entry.body = rng.bytes(OBSERVATION * n);
         entry.kernel = rng.next() as u8;
         entry.most = rng.next() as u16;
     }
@@ -89,10 +100,10 @@ pub fn sized(rng: &mut Rng, index: usize, peers: &mut Peers) -> Outcome {
     let total = TOTALS[index / 4];
     let mut entries = of_lengths(rng, &vec![1; records]);
     for (place, entry) in entries.iter_mut().enumerate() {
-        entry.body = rng.bytes(12 * ((total + place) / records));
+        entry.body = rng.bytes(OBSERVATION * ((total + place) / records));
     }
     let draft = Draft::of(&entries);
-    let code = if draft.out > 65_536 { 26 } else { 0 };
+    let code = if draft.out > LONGEST { 26 } else { 0 };
     peers.call_for(code, &draft.request(rng)).map(|_| ())
 }
 
@@ -100,19 +111,21 @@ pub fn sized(rng: &mut Rng, index: usize, peers: &mut Peers) -> Outcome {
 type Fault = (u64, fn(&mut Rng, &mut Draft, usize));
 
 const FAULTS: [Fault; 10] = [
-    (20, |rng, draft, _| draft.entries.extend(rng.bytes(1)[..1].repeat(3))),
+    (20, |rng, draft, _| {
+        let noise = rng.next() as u8;
+        draft.entries.extend([noise; 3]);
+    }),
     (21, |_, draft, _| draft.entries.clear()),
     (21, |rng, draft, _| draft.entries.extend(rng.bytes(LENT_ENTRY * 64))),
     (23, |rng, draft, entry| {
-        let before = LENT_ENTRY * (entry - 1);
-        draft.entries.copy_within(before..before + 2, LENT_ENTRY * entry);
-        if rng.chance(50) {
-            draft.entries[LENT_ENTRY * entry + 1] = 0;
-            draft.entries[LENT_ENTRY * entry] = 0;
-        }
+        let before = draft.held(entry - 1, TERM);
+        draft.set(entry, TERM, if rng.chance(50) { 0 } else { before });
     }),
-    (24, |rng, draft, entry| draft.entries[LENT_ENTRY * entry + 3] = rng.pick(&[2, 3, 128, 255])),
-    (22, |_, draft, entry| draft.entries[LENT_ENTRY * entry + 7] = 255),
+    (24, |rng, draft, entry| draft.set(entry, KIND, rng.pick(&[2, 3, 128, 255]))),
+    (22, |_, draft, entry| {
+        let n = draft.held(entry, LENGTH);
+        draft.set(entry, LENGTH, n | 0xff00);
+    }),
     (22, |rng, draft, _| {
         let kept = draft.bodies.len().saturating_sub(1 + rng.below(13));
         draft.bodies.truncate(kept);
@@ -123,10 +136,9 @@ const FAULTS: [Fault; 10] = [
     }),
     (26, |rng, draft, entry| {
         let n = 5500 + rng.below(200);
-        let at = LENT_ENTRY * entry + 6;
-        let held = usize::from(draft.entries[at]) + 256 * usize::from(draft.entries[at + 1]);
-        draft.entries[at..at + 2].copy_from_slice(&(n as u16).to_le_bytes());
-        draft.bodies.extend(rng.bytes(12 * n.saturating_sub(held)));
+        let held = draft.held(entry, LENGTH) as usize;
+        draft.set(entry, LENGTH, n as u64);
+        draft.bodies.extend(rng.bytes(OBSERVATION * n.saturating_sub(held)));
     }),
     (27, |rng, draft, _| draft.out = draft.out.saturating_sub(1 + rng.below(20))),
 ];

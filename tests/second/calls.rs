@@ -1,13 +1,13 @@
 //! The four C functions: the reply, and every byte of every lent slice.
 
-use crate::cuttings::{choices, Choices};
+use crate::cuttings::{choices, Choices, MOST};
 use crate::gram::SegmentCosts;
 use crate::number::{bytes, number};
 use crate::record::{judge, judge_numbers, Asked};
 use crate::{file, refuse_if, Refusal};
 
 /// The bytes that read starts go to.
-pub const STARTS_OUT: usize = 24;
+pub const STARTS_OUT: usize = 2 * MOST;
 
 fn reply(result: Result<(), Refusal>) -> u64 {
     result.map_or_else(Refusal::reply, |()| 0)
@@ -41,7 +41,7 @@ fn fill(chosen: &Choices, n: usize, most: usize, costs: &mut [u8], starts: &mut 
 /// Reads the cuts for one count of segments into the first 24 bytes of `out`.
 pub fn read_cuts(starts: &[u8], n: u64, count: u64, kernel: u64, out: &mut [u8]) -> u64 {
     reply(walked(starts, n, count, kernel, out.len()).map(|walk| {
-        for (place, start) in walk.iter().chain([0; 12].iter()).take(12).enumerate() {
+        for (place, start) in walk.iter().chain([0; MOST].iter()).take(MOST).enumerate() {
             out[2 * place..2 * place + 2].copy_from_slice(&bytes(*start as u64, 2));
         }
     }))

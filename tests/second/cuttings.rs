@@ -7,7 +7,7 @@ use std::cmp::Ordering;
 pub const MOST: usize = 12;
 
 /// Records up to this length are also cut in every possible way.
-pub const SMALL: usize = 12;
+const SMALL: usize = 12;
 
 /// A cutting: its cost and the first index of each segment, in order.
 #[derive(Clone, Copy, Debug, PartialEq, Eq)]

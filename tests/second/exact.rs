@@ -1,7 +1,7 @@
 //! Samples as whole numbers x, judged exactly: a share is decoded into an integer fraction.
 
 /// The largest magnitude of a whole x.
-pub const LIMIT: u128 = 1_000_000;
+const LIMIT: u128 = 1_000_000;
 
 /// 65,536 times a share, as a sign and a fraction of naturals.
 struct Scaled {

@@ -8,7 +8,10 @@ use crate::{refuse_if, Refusal};
 pub const LONGEST: usize = 65_536;
 
 /// The most records of a file.
-pub const MOST_RECORDS: usize = 64;
+const MOST_RECORDS: usize = 64;
+
+/// The width of the count of records.
+pub const COUNT: usize = 2;
 
 /// The width of an entry as it is lent to the writer, and with its offset in the file.
 pub const LENT_ENTRY: usize = 8;
@@ -78,7 +81,7 @@ fn judge_count(count: usize) -> Result<(), Refusal> {
 pub fn parse(file: &[u8]) -> Result<Vec<Entry>, Refusal> {
     refuse_if(file.len() > LONGEST, 26)?;
     let mut rest = file;
-    let count = number(take(&mut rest, 2, Refusal::plain(20))?) as usize;
+    let count = number(take(&mut rest, COUNT, Refusal::plain(20))?) as usize;
     judge_count(count)?;
     let contents = take(&mut rest, FILE_ENTRY * count, Refusal::plain(20))?;
     let mut entries: Vec<Entry> = Vec::new();
@@ -107,13 +110,13 @@ pub fn compose(lent: &[u8], bodies: &[u8]) -> Result<Vec<u8>, Refusal> {
     for (place, entry) in lent.chunks(LENT_ENTRY).enumerate() {
         let fields = Fields::of(entry);
         fields.judge(place, term_before)?;
-        let offset = 2 + FILE_ENTRY * count + bodies.len() - rest.len();
+        let offset = COUNT + FILE_ENTRY * count + bodies.len() - rest.len();
         take(&mut rest, OBSERVATION * fields.n, Refusal::at(22, place))?;
         contents.extend([entry, &bytes(offset as u64, 4)].concat());
         term_before = Some(fields.term);
     }
     refuse_if(!rest.is_empty(), 25)?;
-    let file = [&bytes(count as u64, 2), &contents[..], bodies].concat();
+    let file = [&bytes(count as u64, COUNT), &contents[..], bodies].concat();
     refuse_if(file.len() > LONGEST, 26)?;
     Ok(file)
 }

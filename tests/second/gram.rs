@@ -1,7 +1,7 @@
 //! Segment costs from the kernel's definition: A and B from sums over the Gram matrix.
 
 /// k(x, y) for kernel 1 (linear), 2 (spelling) and 3 (energy).
-pub fn kernel(which: u64, x: i64, y: i64) -> i128 {
+fn kernel(which: u64, x: i64, y: i64) -> i128 {
     let (x, y) = (i128::from(x), i128::from(y));
     match which {
         1 => x * y,

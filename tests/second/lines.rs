@@ -14,7 +14,7 @@ pub fn text(contents: &[u8]) -> String {
 }
 
 /// The lines of one term.
-pub fn of_term(entry: &Entry) -> String {
+fn of_term(entry: &Entry) -> String {
     let asked = Asked { kind: entry.kind, kernel: entry.kernel, most: entry.most };
     match judge(&entry.body, asked, u64::MAX) {
         Ok(record) => format!("term {} code 0 place 0\n{}", entry.term, of_record(&record, asked)),

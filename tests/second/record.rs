@@ -1,6 +1,9 @@
 //! A record from a body's bytes, judged in the order of the rules.
 
-use crate::{exact, number::number, refuse_if, Refusal};
+use crate::{cuttings, exact, number::number, refuse_if, Refusal};
+
+/// The most observations of a record.
+pub const LONGEST: u64 = 400;
 
 /// The width of an observation: day and sample.
 pub const OBSERVATION: usize = 12;
@@ -23,8 +26,8 @@ pub struct Asked {
 /// Tries n, the count of segments, the kernel and the entries lent: 1, 2, 4, 5, 6, 7.
 pub fn judge_numbers(n: u64, segments: u64, kernel: u64, entries: u64) -> Result<(), Refusal> {
     refuse_if(n == 0, 1)?;
-    refuse_if(n > 400, 2)?;
-    refuse_if(segments == 0 || segments > 12, 4)?;
+    refuse_if(n > LONGEST, 2)?;
+    refuse_if(segments == 0 || segments > cuttings::MOST as u64, 4)?;
     refuse_if(segments > n, 5)?;
     refuse_if(!(1..=3).contains(&kernel), 6)?;
     refuse_if(entries < segments * (n + 1), 7)

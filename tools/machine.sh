@@ -2,7 +2,7 @@
 # which the archive libtawinrak.a and the program cuts are made for.
 #
 #   CC           compiles C for x86-64 (programs are linked with -static)
-#   NM           lists the symbols of the archive
+#   AR, NM       makes an archive of such objects; lists the symbols of one
 #   RUN          the words before a static x86-64 program; empty on x86-64
 #   RUN_PROGRAM  the words before a program that rt has linked; empty on x86-64
 #   EMULATED     yes where x86-64 programs run under the kit's emulator, else no
@@ -30,12 +30,12 @@ kit_home() {
 case $(uname -m) in
 x86_64)
     need cc gcc libc6-dev
-    EMULATED=no CC=cc NM=nm RUN='' RUN_PROGRAM=''
+    EMULATED=no CC=cc AR=ar NM=nm RUN='' RUN_PROGRAM=''
     ;;
 *)
     need x86_64-linux-gnu-gcc gcc-x86-64-linux-gnu libc6-dev-amd64-cross
     kit_tools=$(kit_home)/on/$(uname -m)/toolchain
-    EMULATED=yes CC=x86_64-linux-gnu-gcc NM=x86_64-linux-gnu-nm
+    EMULATED=yes CC=x86_64-linux-gnu-gcc AR=x86_64-linux-gnu-ar NM=x86_64-linux-gnu-nm
     RUN=$kit_tools/bin/qemu-x86_64
     RUN_PROGRAM="$RUN $kit_tools/lib/ld-linux-x86-64.so.2 --library-path $kit_tools/lib"
     ;;
