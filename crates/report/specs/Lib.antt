@@ -1,4 +1,5 @@
+pub mod Limits
 pub mod Lines
-pub mod Terms
-pub mod Written
 pub mod Tables
+pub mod Printed
+pub mod Written

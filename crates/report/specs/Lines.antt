@@ -1,15 +1,20 @@
--- The lines of one term, by the term number, the kernel, the sample kind, Dmax and the body alone.
-use Prim.Native.Nat.{ℕ, zero, suc, _-_, _+_}
-use mathlib.Core.Bool.{cond}
+-- The lines of one term, by the term number, what is asked of its record, and the record's body alone.
+use Prim.Native.Nat.{ℕ, zero, suc, _-_}
 use mathlib.Core.List.{List, [], _∷_, _++_}
-use lib.Dec.{leb, eqb}
-use lib.ListN.{drop}
-use Rattle.cutting.specs.Recurrence.{leastIn, chosenIn}
+use lib.ListN.{replicate}
+use lib.Seq.{slice}
+use Rattle.cutting.specs.Limits.{mostSegments}
 use Rattle.reply.specs.declared.Reply.{Reply}
-use Rattle.record.specs.Body.{observations, dayAt}
-use Rattle.segment.specs.Date.{midpointOf}
-use Rattle.engine.specs.Solve.{recordCost, solveReply}
+use Rattle.reply.specs.Reply.{ifDone}
+use Rattle.record.specs.declared.Asked.{Asked}
+use Rattle.record.specs.Body.{observations}
+use Rattle.record.specs.Cost.{leastOf, chosenOf}
+use Rattle.segment.specs.Date.{dateIn}
+use Rattle.engine.specs.Solve.{solveReply}
+use Rattle.file.specs.Items.{Item}
 use Rattle.text.specs.Text.{decimal}
+use Rattle.report.specs.declared.line.Line.{Line}
+use Rattle.report.specs.Limits.{costRoom, startRoom}
 
 -- the bytes of `term `, ` code `, ` place ` and `file`
 abbrev pub termWord : List ℕ
@@ -36,46 +41,43 @@ headText term r = termWord ++ (decimal term ++ replyText r)
 abbrev pub fileText : Reply → List ℕ
 fileText r = fileWord ++ replyText r
 
--- The change date of the segment that starts at index s, by its record's days; 0 where no segment but the first starts there.
-unfoldable pub dateAt : List ℕ → ℕ → ℕ
-dateAt body s =
-    cond (eqb s 0) 0 (cond (leb (observations body) s) 0 (midpointOf (dayAt body (s - 1)) (dayAt body s)))
-
 -- "for each segment after the first its first index, a colon and its change date", each behind a space (32); 58 is the colon
 abbrev pub pairText : ℕ → ℕ → List ℕ
 pairText index date = (32 ∷ []) ++ (decimal index ++ ((58 ∷ []) ++ decimal date))
 
 abbrev pub cutText : List ℕ → ℕ → List ℕ
-cutText body s = pairText s (dateAt body s)
+cutText body s = pairText s (dateIn body s)
 
 abbrev pub cutsText : List ℕ → List ℕ → List ℕ
 cutsText body [] = []
 cutsText body (s ∷ c) = cutText body s ++ cutsText body c
 
--- "Each line after is D, the cost in units, then" the cuts.
-abbrev pub lineText : List ℕ → ℕ → ℕ → List ℕ → List ℕ
-lineText body d cost cuts = decimal d ++ ((32 ∷ []) ++ (decimal cost ++ (cutsText body cuts ++ (10 ∷ []))))
+-- "Each line after is D, the cost in units, then" the cuts: the starts of all segments but the first
+abbrev pub lineText : List ℕ → Line → List ℕ
+lineText body l =
+    decimal (l .d) ++ ((32 ∷ []) ++ (decimal (l .cost) ++ (cutsText body (slice 1 (l .d) (l .starts)) ++ (10 ∷ []))))
 
--- the lines for D = 1 to k, of a record with the segment cost w
-unfoldable pub cutLines : (ℕ → ℕ → ℕ) → List ℕ → ℕ → List ℕ
-cutLines w body zero = []
-cutLines w body (suc k) =
-    cutLines w body k
-    ++ lineText body (suc k) (leastIn w 1 0 (suc k) (observations body)) (drop 1 (chosenIn w 1 0 (suc k) (observations body)))
+-- what the line for D segments says: the least cost, and the chosen cutting
+abbrev pub chosenLine : Asked → List ℕ → ℕ → Line
+chosenLine asked body D = record {
+  d = D;
+  cost = leastOf asked body D (observations body);
+  starts = chosenOf asked body D (observations body) ++ replicate (mostSegments - D) 0;
+}
 
--- the largest tables that a record can need: 12 rows of 401 entries, of 8 and 2 bytes
-abbrev pub costBytes : ℕ
-costBytes = 38496
+-- the lines for D = 1 to k
+unfoldable pub cutLines : Asked → List ℕ → ℕ → List ℕ
+cutLines asked body zero = []
+cutLines asked body (suc k) = cutLines asked body k ++ lineText body (chosenLine asked body (suc k))
 
-abbrev pub startBytes : ℕ
-startBytes = 9624
-
--- the reply to a term's record, with tables of that size
-abbrev pub termReply : ℕ → ℕ → ℕ → List ℕ → Reply
-termReply number kind d body = solveReply kind number d body costBytes startBytes
+-- the reply to a term's record, with the largest tables
+abbrev pub termReply : Asked → List ℕ → Reply
+termReply asked body = solveReply asked body costRoom startRoom
 
 -- All lines of a term. "A refused record has only its first line."
-unfoldable pub linesOf : ℕ → ℕ → ℕ → ℕ → List ℕ → List ℕ
-linesOf term number kind d body =
-    headText term (termReply number kind d body)
-    ++ cond (eqb (termReply number kind d body .code) 0) (cutLines (recordCost kind number body) body d) []
+unfoldable pub linesOf : ℕ → Asked → List ℕ → List ℕ
+linesOf term asked body = headText term (termReply asked body) ++ ifDone (termReply asked body) (cutLines asked body (asked .dmax)) []
+
+-- the lines of a file's record: by its entry's fields, offset aside, and its body
+abbrev pub itemText : Item → List ℕ
+itemText x = linesOf (x .entry .term) (x .entry .asked) (x .body)

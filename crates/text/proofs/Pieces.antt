@@ -6,13 +6,10 @@ use native.Mathlib.Nat.{div-lt-iff-lt-mul, pow-suc}
 use native.Mathlib.Decide.{decLt}
 use native.Mathlib.Omega.{arith}
 use lib.ListN.{length, set, length-append, take}
-use lib.Seq.{sets, length-sets, sets-eq, set-out, take-at}
+use lib.Seq.{set-out, take-at}
 use borrow.Author.Tests.{lt-ltb, le-ltb}
+use Rattle.buffer.proofs.Laid.{length-laid, laid-next, laid-is}
 use Rattle.text.specs.Text.{digits, decimal, Put}
-
-sets-append : (l : List ℕ) (i : ℕ) (x y : List ℕ) → sets (sets l i x) (i + length x) y ≡ sets l i (x ++ y)
-sets-append l i [] y = let e : i + 0 ≡ i = omega arith in rw e
-sets-append l i (a ∷ x) y = let e : i + suc (length x) ≡ suc i + length x = omega arith in rw e (sets-append (set l i a) (suc i) x y)
 
 pub put-nothing : (l : List ℕ) (at : ℕ) → Put l at [] l at
 put-nothing l at = record { buffer = refl; end = omega arith }
@@ -20,7 +17,7 @@ put-nothing l at = record { buffer = refl; end = omega arith }
 -- a piece behind a piece
 pub then : {l m o x y : List ℕ} {at next last : ℕ} → Put l at x m next → Put m next y o last → Put l at (x ++ y) o last
 then {l} {m} {o} {x} {y} {at} {next} {last} p q = record {
-  buffer = q .buffer ∙ rw (p .buffer, p .end) (sets-append l at x y);
+  buffer = q .buffer ∙ rw (p .buffer, p .end) (laid-next l at (at + length x) x y refl);
   end = omega (arith, p .end, q .end, length-append x y);
 }
 
@@ -36,7 +33,7 @@ pub retell : {l m x y : List ℕ} {at next : ℕ} → x ≡ y → Put l at x m n
 retell {l} {m} {x} {y} {at} {next} e p = subst (λ (z : List ℕ). Put l at z m next) e p
 
 pub put-length : {l m x : List ℕ} {at next : ℕ} → Put l at x m next → length m ≡ length l
-put-length {l} {m} {x} {at} p = ap length (p .buffer) ∙ length-sets l at x
+put-length {l} {m} {x} {at} p = ap length (p .buffer) ∙ length-laid l at x
 
 -- ---- digits
 pub one-digit : (f n : ℕ) → 1 ≤ f → n < 10 → ((48 + n) ∷ []) ≡ digits f n
@@ -72,4 +69,4 @@ decimal-length n = digits-length 20 n
 -- ---- the text at the front of a buffer that has room for it
 pub front : {l m text : List ℕ} {next : ℕ} → Put l 0 text m next → length text ≤ length l → take next m ≡ text
 front {l} {m} {text} {next} p h =
-    rw (p .buffer, sets-eq text l 0 (omega arith)) (take-at text _ next (omega (arith, p .end)))
+    rw (p .buffer, laid-is l 0 text (omega arith)) (take-at text _ next (omega (arith, p .end)))

@@ -7,12 +7,7 @@ use native.Mathlib.Nat.{div-lt-iff-lt-mul, pow-suc}
 use native.Mathlib.Omega.{arith}
 use borrow.Author.Tests.{lt-ltb, le-ltb}
 use lib.ListN.{getD}
-use Rattle.text.specs.Text.{digits, decimal}
-
--- the number that digits say, with v said before them
-abbrev pub said : ℕ → List ℕ → ℕ
-said v [] = v
-said v (b ∷ l) = said (10 * v + (b - 48)) l
+use Rattle.text.specs.Text.{digits, decimal, said}
 
 said-append : (v : ℕ) (l : List ℕ) (b : ℕ) → said v (l ++ (b ∷ [])) ≡ 10 * said v l + (b - 48)
 said-append v [] b = refl

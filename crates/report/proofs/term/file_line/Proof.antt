@@ -1,4 +1,4 @@
--- `report::file_line` meets its contract: the text fits its own buffer, and is handed over. Assumes nothing.
+-- `report::term::file_line` meets its contract: the text fits its own buffer, and is handed over. Assumes nothing.
 use mathlib.Core.Path.{ap, _∙_}
 use mathlib.Core.List.{List}
 use Prim.Native.Nat.{ℕ}
@@ -9,8 +9,8 @@ use borrow.Author.Needs.{needs}
 use Rattle.text.proofs.Pieces.{then, front, put-length}
 use Rattle.report.specs.Written.{writtenOf, outAfter}
 use Rattle.report.proofs.Lengths.{file-length, reply-length}
-use Rattle.report.proofs.file_line.Statement.{statement}
-use Rattle.report.proofs.file_line.Tie as tie
+use Rattle.report.proofs.term.file_line.Statement.{statement}
+use Rattle.report.proofs.term.file_line.Tie as tie
 
 slice-aggregate-put-word : tie.Need-slice-aggregate-put-word
 slice-aggregate-put-word c = search needs

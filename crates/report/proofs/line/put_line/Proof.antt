@@ -1,9 +1,9 @@
--- `report::put_line` meets its contract: one piece behind the other. Assumes nothing.
+-- `report::line::put_line` meets its contract: one piece behind the other. Assumes nothing.
 use native.Mathlib.Omega.{arith}
 use borrow.Author.Needs.{needs}
 use Rattle.text.proofs.Pieces.{then}
-use Rattle.report.proofs.put_line.Statement.{statement}
-use Rattle.report.proofs.put_line.Tie as tie
+use Rattle.report.proofs.line.put_line.Statement.{statement}
+use Rattle.report.proofs.line.put_line.Tie as tie
 
 put-number-requires : tie.Need-put-number-requires
 put-number-requires c κs = search needs

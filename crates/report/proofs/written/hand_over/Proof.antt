@@ -1,4 +1,4 @@
--- `report::hand_over` meets its contract. The loop's invariant: the first i bytes are copied. Assumes nothing.
+-- `report::written::hand_over` meets its contract. The loop's invariant: the first i bytes are copied. Assumes nothing.
 use Prim.Native.Nat.{ℕ, _-_, _≤_}
 use mathlib.Core.Path.{_≡_, sym, ap, _∙_}
 use mathlib.Core.List.{List}
@@ -9,8 +9,8 @@ use lib.ListN.{length, getD, set}
 use lib.Seq.{paste, paste-zero, paste-suc, length-paste}
 use denote.Ref.{now}
 use Rattle.report.proofs.Buffer.{too-short, room-enough}
-use Rattle.report.proofs.hand_over.Statement.{statement}
-use Rattle.report.proofs.hand_over.Tie as tie
+use Rattle.report.proofs.written.hand_over.Statement.{statement}
+use Rattle.report.proofs.written.hand_over.Tie as tie
 
 abbrev Inv-loop : tie.InvT-loop
 Inv-loop text len out₀ i₀ out i = (i ≤ len) × (out ≡ paste out₀ 0 text i)

@@ -1,4 +1,4 @@
--- `report::lines` meets its contract: the text fits its own buffer, and is handed over. Assumes nothing.
+-- `report::term::lines` meets its contract: the text fits its own buffer, and is handed over. Assumes nothing.
 use mathlib.Core.Path.{ap, _∙_}
 use mathlib.Core.List.{List}
 use Prim.Native.Nat.{ℕ}
@@ -9,8 +9,8 @@ use borrow.Author.Needs.{needs}
 use Rattle.text.proofs.Pieces.{front, put-length}
 use Rattle.report.specs.Written.{writtenOf, outAfter}
 use Rattle.report.proofs.Term.{lines-length}
-use Rattle.report.proofs.lines.Statement.{statement}
-use Rattle.report.proofs.lines.Tie as tie
+use Rattle.report.proofs.term.lines.Statement.{statement}
+use Rattle.report.proofs.term.lines.Tie as tie
 
 slice-aggregate-put-lines : tie.Need-slice-aggregate-put-lines
 slice-aggregate-put-lines c = search needs

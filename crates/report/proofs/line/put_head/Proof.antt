@@ -1,9 +1,9 @@
--- `report::put_head` meets its contract: one piece behind the other. Assumes nothing.
+-- `report::line::put_head` meets its contract: one piece behind the other. Assumes nothing.
 use native.Mathlib.Omega.{arith}
 use borrow.Author.Needs.{needs}
 use Rattle.text.proofs.Pieces.{then}
-use Rattle.report.proofs.put_head.Statement.{statement}
-use Rattle.report.proofs.put_head.Tie as tie
+use Rattle.report.proofs.line.put_head.Statement.{statement}
+use Rattle.report.proofs.line.put_head.Tie as tie
 
 slice-aggregate-put-word : tie.Need-slice-aggregate-put-word
 slice-aggregate-put-word c = search needs

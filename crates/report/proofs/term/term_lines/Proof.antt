@@ -1,4 +1,4 @@
--- `report::term_lines` meets its contract: the entry and its body lie in an accepted file. Assumes nothing.
+-- `report::term::term_lines` meets its contract: the entry and its body lie in an accepted file. Assumes nothing.
 use Prim.Native.Nat.{ℕ, _+_, _-_, _*_, _≤_}
 use mathlib.Core.Path.{_≡_, ap, _∙_}
 use mathlib.Core.List.{List}
@@ -11,8 +11,8 @@ use Rattle.file.specs.Layout.{sizeOf, entryAt}
 use Rattle.file.proofs.Promises.{entry-within, body-within}
 use Rattle.report.specs.Lines.{linesOf}
 use Rattle.report.specs.Written.{writtenOf, outAfter}
-use Rattle.report.proofs.term_lines.Statement.{statement}
-use Rattle.report.proofs.term_lines.Tie as tie
+use Rattle.report.proofs.term.term_lines.Statement.{statement}
+use Rattle.report.proofs.term.term_lines.Tie as tie
 
 entry-at-requires : tie.Need-entry-at-requires
 entry-at-requires c κs =

@@ -1,4 +1,4 @@
--- `report::put_cuts` meets its contract. The loop's invariant: the cuts of the segments 1 to i - 1 are put. Assumes nothing.
+-- `report::line::put_cuts` meets its contract. The loop's invariant: the cuts of the segments 1 to i - 1 are put. Assumes nothing.
 use Prim.Native.Nat.{ℕ, _-_, _≤_}
 use mathlib.Core.Path.{_≡_, sym, ap, _∙_}
 use mathlib.Core.List.{_++_}
@@ -12,8 +12,8 @@ use Rattle.text.proofs.Pieces.{put-nothing, then, retell, put-length}
 use Rattle.report.specs.Lines.{pairText, cutsText}
 use Rattle.report.proofs.Lengths.{cuts-end}
 use Rattle.report.proofs.Pieces.{cuts-more}
-use Rattle.report.proofs.put_cuts.Statement.{statement}
-use Rattle.report.proofs.put_cuts.Tie as tie
+use Rattle.report.proofs.line.put_cuts.Statement.{statement}
+use Rattle.report.proofs.line.put_cuts.Tie as tie
 
 abbrev Inv-loop : tie.InvT-loop
 Inv-loop out₀ at body starts d next₀ i₀ out next i =

@@ -1,4 +1,4 @@
--- `report::put_lines` meets its contract: the first line, and for a record that is accepted the lines off its tables. Assumes nothing.
+-- `report::term::put_lines` meets its contract: the first line, and for a record that is accepted the lines off its tables. Assumes nothing.
 use mathlib.Core.Path.{ap₂, _∙_}
 use mathlib.Core.List.{_++_}
 use native.Mathlib.Omega.{arith}
@@ -9,8 +9,8 @@ use Rattle.report.specs.Lines.{headText}
 use Rattle.report.specs.Tables.{tableLines}
 use Rattle.report.proofs.Lengths.{head-length}
 use Rattle.report.proofs.Term.{refused-lines, few, accepted-lines}
-use Rattle.report.proofs.put_lines.Statement.{statement}
-use Rattle.report.proofs.put_lines.Tie as tie
+use Rattle.report.proofs.term.put_lines.Statement.{statement}
+use Rattle.report.proofs.term.put_lines.Tie as tie
 
 solve-requires : tie.Need-solve-requires
 solve-requires c κs = search needs

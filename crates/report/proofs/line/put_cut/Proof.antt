@@ -1,9 +1,9 @@
--- `report::put_cut` meets its contract: one piece behind the other. Assumes nothing.
+-- `report::line::put_cut` meets its contract: one piece behind the other. Assumes nothing.
 use native.Mathlib.Omega.{arith}
 use borrow.Author.Needs.{needs}
 use Rattle.text.proofs.Pieces.{then}
-use Rattle.report.proofs.put_cut.Statement.{statement}
-use Rattle.report.proofs.put_cut.Tie as tie
+use Rattle.report.proofs.line.put_cut.Statement.{statement}
+use Rattle.report.proofs.line.put_cut.Tie as tie
 
 put-byte-requires : tie.Need-put-byte-requires
 put-byte-requires c κs = search needs
