@@ -1,9 +1,9 @@
 -- A record is accepted exactly where it is `Accepted`, and 12 is never given. Assumes nothing.
-use Prim.Native.Nat.{ℕ, _+_, _*_, _≤_, _<_}
-use mathlib.Core.Path.{_≡_, refl, sym, ap, _∙_}
+use Prim.Native.Nat.{ℕ, _+_, _*_, _≤_}
+use mathlib.Core.Path.{_≡_, ap, _∙_}
 use mathlib.Core.Bool.{false, cond}
 use mathlib.Core.Logic.{_↔_}
-use mathlib.Core.List.{List, [], _∷_}
+use mathlib.Core.List.{List}
 use native.Mathlib.Omega.{arith}
 use lib.Dec.{ltb}
 use lib.ListN.{length}
@@ -15,7 +15,7 @@ use Rattle.kernel.specs.Kernel.{namedOf}
 use Rattle.kernel.proofs.Number.{known-number}
 use Rattle.reply.specs.declared.Reply.{Reply}
 use Rattle.reply.specs.Reply.{refusal}
-use Rattle.reply.specs.Tries.{Clear, Coded, firstOf}
+use Rattle.reply.specs.Tries.{Clear, Coded}
 use Rattle.reply.proofs.Exactly.{accepted-iff}
 use Rattle.reply.proofs.Answers.{last-fails, past}
 use Rattle.record.specs.declared.Asked.{Asked}

@@ -5,7 +5,6 @@ use mathlib.Core.Bool.{false}
 use mathlib.Core.Logic.{inl, inr, ⊎-elim, _↔_}
 use mathlib.Core.List.{List, _∷_}
 use lib.Dec.{lit≤}
-use lib.ListN.{length}
 use Rattle.reply.specs.Reply.{done}
 use Rattle.reply.specs.Codes.{among}
 use Rattle.reply.specs.Tries.{firstOf, Coded, Within, Every}

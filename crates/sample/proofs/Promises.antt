@@ -12,9 +12,10 @@ use lib.Ieee.Exact.{HasValue}
 use borrow.Author.Tests.{le-ltb, lt-ltb, le-leb, lt-leb, ne-eqb}
 use Rattle.sample.specs.declared.Sample.{Sample}
 use Rattle.sample.specs.declared.Sample.the-variants.{Count, Share}
-use Rattle.sample.specs.declared.Judged.the-variants.{Whole, NotFinite, OutOfRange, NotWhole}
-use Rattle.sample.specs.Level.{InRange, level}
+use Rattle.sample.specs.declared.Judged.the-variants.{Whole}
+use Rattle.sample.specs.Level.{largest, scale, InRange, level}
 use Rattle.sample.specs.Judge.{signed, judgedRatio, judgedShare, judgedCount, judgedOf}
+use Rattle.sample.specs.Code.{codeOf}
 use Rattle.sample.specs.Word.{sampleOf}
 use Rattle.sample.specs.Shares.{Shown, shares}
 use Rattle.sample.proofs.Scaled.{power, product-exact}
@@ -24,7 +25,7 @@ use Rattle.sample.proofs.Range.{whole-in-range, level-is, level-le}
 
 -- "The product by 65,536 loses nothing for every share whose x is in range." The share is m * up e / down e in size, and 65,536 is 2 ^ 16:
 -- the floating product has the sign s and the size 65,536 * m * up e / down e, with no rounding.
-pub product-loses-nothing : (s : Bool) (m : ℕ) (e : ℤ) → T (fits binary64 (fin s m e)) → m * up e * 65536 ≤ 1000000 * down e → HasValue (mul binary64 (fin s m e) (power 16)) s (m * up e * 65536) (down e)
+pub product-loses-nothing : (s : Bool) (m : ℕ) (e : ℤ) → T (fits binary64 (fin s m e)) → m * up e * scale ≤ largest * down e → HasValue (mul binary64 (fin s m e) (power 16)) s (m * up e * scale) (down e)
 product-loses-nothing s m e h l = product-exact binary64 s m e 16 h (lt-of-le-of-lt l (mul-lt-mul-of-pos-right (lit< tt) (down-pos e)))
 
 -- The table of shares, with the edges: one proof, by computation.
@@ -34,32 +35,32 @@ shares-judged = refl
 
 -- "A share v becomes x = 65,536 times v, accepted only if that is whole and in range." For the finite share of the sign s and the size m * up e / down e:
 module _ (s : Bool) (m : ℕ) (e : ℤ) where
-  -- out of range it is refused, whole or not,
-  pub share-out : 1000000 * down e < m * up e * 65536 → judgedOf (Share (fin s m e)) ≡ OutOfRange
+  -- out of range it is refused, whole or not: "10: sample out of range",
+  pub share-out : largest * down e < m * up e * scale → codeOf (judgedOf (Share (fin s m e))) ≡ 10
   unfolding judgedShare judgedRatio
   share-out h = rw (lt-ltb _ _ h)
 
-  -- in range and not whole it is refused,
-  pub share-not-whole : m * up e * 65536 ≤ 1000000 * down e → (m * up e * 65536 % down e ≡ 0 → ⊥) → judgedOf (Share (fin s m e)) ≡ NotWhole
+  -- in range and not whole it is refused: "11: share not whole after scaling",
+  pub share-not-whole : m * up e * scale ≤ largest * down e → (m * up e * scale % down e ≡ 0 → ⊥) → codeOf (judgedOf (Share (fin s m e))) ≡ 11
   unfolding judgedShare judgedRatio
   share-not-whole h r = rw (le-ltb _ _ h, ne-eqb _ _ r)
 
   -- and in range and whole it is accepted, as that number: "Both zeros become 0."
-  pub share-whole : (n : ℕ) → n ≤ 1000000 → m * up e * 65536 ≡ n * down e → judgedOf (Share (fin s m e)) ≡ Whole (signed s n)
+  pub share-whole : (n : ℕ) → n ≤ largest → m * up e * scale ≡ n * down e → judgedOf (Share (fin s m e)) ≡ Whole (signed s n)
   unfolding judgedShare judgedRatio
   share-whole n h x = rw x (rw (le-ltb _ _ (mul-le-mul-right (down e) h), mul-mod-left n (down e), mul-div-cancel n (down-pos e)))
 
   -- "a finite share whose product is infinite is out of range"
-  pub share-overflow : (t : Bool) → T (fits binary64 (fin s m e)) → mul binary64 (fin s m e) (power 16) ≡ inf t → judgedOf (Share (fin s m e)) ≡ OutOfRange
+  pub share-overflow : (t : Bool) → T (fits binary64 (fin s m e)) → mul binary64 (fin s m e) (power 16) ≡ inf t → codeOf (judgedOf (Share (fin s m e))) ≡ 10
   unfolding judgedProduct
-  share-overflow t h p = product-judged s m e h ∙ ap judgedProduct p
+  share-overflow t h p = ap codeOf (product-judged s m e h ∙ ap judgedProduct p)
 
 -- "NaN, either infinity: refused, 9": every NaN's bit pattern, and the infinities.
-pub nan-refused : (kind word : ℕ) → (kind ≡ 0 → ⊥) → 0x7ff0_0000_0000_0000 < word % 0x8000_0000_0000_0000 → judgedOf (sampleOf kind word) ≡ NotFinite
+pub nan-refused : (kind word : ℕ) → (kind ≡ 0 → ⊥) → 0x7ff0_0000_0000_0000 < word % 0x8000_0000_0000_0000 → codeOf (judgedOf (sampleOf kind word)) ≡ 9
 unfolding judgedShare
 nan-refused kind word k h = rw (ne-eqb kind 0 k, is-nan word h)
 
-pub infinity-refused : (s : Bool) → judgedOf (Share (inf s)) ≡ NotFinite
+pub infinity-refused : (s : Bool) → codeOf (judgedOf (Share (inf s))) ≡ 9
 unfolding judgedShare
 infinity-refused s = refl
 
@@ -68,10 +69,10 @@ pub count-whole : (n : ℤ) → InRange n → judgedOf (Count n) ≡ Whole n
 unfolding judgedCount
 count-whole n h = rw (le-leb _ _ h)
 
-pub count-out : (n : ℤ) → (InRange n → ⊥) → judgedOf (Count n) ≡ OutOfRange
+pub count-out : (n : ℤ) → (InRange n → ⊥) → codeOf (judgedOf (Count n)) ≡ 10
 unfolding judgedCount
 count-out n h = rw (lt-leb _ _ (lt-of-not-le h))
 
 -- What is accepted is in range, and its level is x + 1,000,000, from 0 to 2,000,000.
-pub accepted-level : (s : Sample) (x : ℤ) → judgedOf s ≡ Whole x → InRange x × (x +ℤ pos 1000000 ≡ pos (level x)) × (level x ≤ 2000000)
+pub accepted-level : (s : Sample) (x : ℤ) → judgedOf s ≡ Whole x → InRange x × (x +ℤ pos largest ≡ pos (level x)) × (level x ≤ 2 * largest)
 accepted-level s x e = let r = whole-in-range s x e in (r, level-is x r, level-le x r)

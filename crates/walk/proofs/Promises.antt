@@ -7,9 +7,8 @@ use native.Mathlib.Omega.{arith}
 use lib.ListN.{length}
 use Rattle.kernel.specs.declared.Kernel.{Kernel}
 use Rattle.kernel.specs.declared.Kernel.the-variants.{Linear, Spelling, Energy}
-use Rattle.reply.specs.Reply.{refusal}
 use Rattle.reply.specs.Codes.{among}
-use Rattle.reply.specs.Tries.{firstOf, Within, Every}
+use Rattle.reply.specs.Tries.{Within, Every}
 use Rattle.reply.specs.Answered.{Answered}
 use Rattle.reply.proofs.First.{if-refused}
 use Rattle.reply.proofs.Exactly.{answered}
