@@ -1,0 +1,89 @@
+-- What is tried of a file, and of what is lent to the writer, in the scope's order: each fact with its code and its place.
+use Prim.Native.Nat.{ℕ, _+_, _%_, _≤_, _<_}
+use mathlib.Core.Path.{_≡_}
+use mathlib.Core.Logic.{_⊎_}
+use mathlib.Core.List.{List, [], _∷_}
+use lib.ListN.{length}
+use Rattle.buffer.specs.Laid.{laid}
+use Rattle.record.specs.Limits.{mostKind}
+use Rattle.reply.specs.declared.Reply.{Reply}
+use Rattle.reply.specs.Reply.{ifDone}
+use Rattle.reply.specs.Facts.{Fact, _is_, _is-not_, _is-below_, _is-above_, _or_}
+use Rattle.reply.specs.Tries.{Tries, try, _then_, each, firstOf}
+use Rattle.file.specs.declared.layout.Entry.{Entry}
+use Rattle.file.specs.declared.contents.Contents.{Contents}
+use Rattle.file.specs.declared.contents.Due.{Due}
+use Rattle.file.specs.Limits.{mostBytes, mostRecords, countBytes}
+use Rattle.file.specs.Layout.{sizeOf}
+use Rattle.file.specs.Contents.{countIn, bodiesAt, filed, lentBytes, countLent, lent, entryIn, dueIn, offsetIn}
+use Rattle.file.specs.Items.{fileOf, lentItems}
+
+-- "21: count of records 0 or above 64"
+abbrev pub badCount : ℕ → Fact
+badCount n = n is 0 or n is-above mostRecords
+
+-- "entry by entry 23, 24, 22": entry i, with its offset, what is due of it, and where bodies are to end. A lent entry's offset is where its body is
+-- due, so that "22 means the run ends inside that body".
+abbrev pub entryTries : Entry → (offset : ℕ) → Due → (limit i : ℕ) → Tries
+entryTries e offset due limit i =
+    try (e .term is-below due .floor) 23 i
+    then try (e .asked .kind is-above mostKind) 24 i
+    then try (offset is-not due .at) 22 i
+    then try (due .at + sizeOf e is-above limit) 22 i
+
+abbrev pub triesIn : Contents → List ℕ → ℕ → Tries
+triesIn c s i = entryTries (entryIn c s i) (offsetIn c s i) (dueIn c s i) (c .limit) i
+
+abbrev pub contentsTries : Contents → List ℕ → Tries
+contentsTries c s = each 0 (c .count) (triesIn c s)
+
+-- "25: bytes after the last body"
+abbrev pub leftTry : Contents → List ℕ → Tries
+leftTry c s = try (dueIn c s (c .count) .at is-below c .limit) 25 0
+
+abbrev pub entriesTries : Contents → List ℕ → Tries
+entriesTries c s = contentsTries c s then leftTry c s
+
+-- "Reading tries 26, 20 for the count, 21, 20 for the contents, then entry by entry 23, 24, 22, then 25."
+unfoldable pub readTries : List ℕ → Tries
+readTries f =
+    try (length f is-above mostBytes) 26 0
+    then try (length f is-below countBytes) 20 0
+    then try (badCount (countIn f)) 21 0
+    then try (length f is-below bodiesAt (countIn f)) 20 0
+    then entriesTries (filed f) f
+
+abbrev pub readCodes : List ℕ
+readCodes = 26 ∷ 20 ∷ 21 ∷ 23 ∷ 24 ∷ 22 ∷ 25 ∷ []
+
+abbrev pub readReply : List ℕ → Reply
+readReply f = firstOf (readTries f)
+
+-- How long the file is that is written of what is lent, and what is tried of that length and of the room for it: "26, 27".
+abbrev pub lentLength : (es bs : List ℕ) → ℕ
+lentLength es bs = bodiesAt (countLent es) + length bs
+
+abbrev pub roomTries : (long room : ℕ) → Tries
+roomTries long room = try (long is-above mostBytes) 26 0 then try (room is-below long) 27 0
+
+-- "It tries 20 for a last entry cut short, 21, then each entry for 23, 24, 22 ..; then 25 (bytes left over), 26, 27."
+unfoldable pub writeTries : (es bs : List ℕ) → ℕ → Tries
+writeTries es bs room =
+    try (length es % lentBytes is-not 0) 20 0
+    then try (badCount (countLent es)) 21 0
+    then entriesTries (lent es (length bs)) es
+    then roomTries (lentLength es bs) room
+
+abbrev pub writeCodes : List ℕ
+writeCodes = 20 ∷ 21 ∷ 23 ∷ 24 ∷ 22 ∷ 25 ∷ 26 ∷ 27 ∷ []
+
+abbrev pub writeReply : (es bs : List ℕ) → ℕ → Reply
+writeReply es bs room = firstOf (writeTries es bs room)
+
+-- "Place is 0 unless stated", and for 22 to 24 "place is the entry", of n entries, which are at most 64.
+abbrev pub Placed : ℕ → Reply → Type 0
+Placed n r = (r .place ≡ 0) ⊎ ((22 ≤ r .code) × ((r .code ≤ 24) × ((r .place < n) × (n ≤ mostRecords))))
+
+-- What the output o is after the writer's reply r: the file of what is lent, laid over it, "Output past the file's end keeps its bytes"; or as it was.
+abbrev pub written : Reply → (es bs o : List ℕ) → List ℕ
+written r es bs o = ifDone r (laid o 0 (fileOf (lentItems es bs))) o
