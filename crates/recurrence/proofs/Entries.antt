@@ -3,7 +3,6 @@
 -- Assumes nothing.
 use Prim.Native.Nat.{ℕ, suc, _+_, _*_, _^_, _≤_, _<_}
 use native.Mathlib.Nat.{mul-le-mul-left}
-use native.Mathlib.Decide.{decLt}
 use native.Mathlib.Omega.{arith}
 use mathlib.Core.Path.{_≡_, refl, sym, _∙_, ap}
 use mathlib.Core.List.{List}
@@ -16,7 +15,7 @@ use Rattle.cutting.specs.Recurrence.{room, least}
 use Rattle.cutting.specs.Table.{costAt, startAt, costFrom, startFrom}
 use Rattle.cutting.proofs.Bound.{least-most}
 use Rattle.cutting.proofs.Same.{Alike}
-use Rattle.cutting.proofs.Table.{cost-none, cost-some, cost-alike, start-alike, cost-from, start-from}
+use Rattle.cutting.proofs.Table.{cost-some, cost-most, cost-alike, start-alike, cost-from, start-from}
 use Rattle.recurrence.specs.Column.{rowsOf, pricesOf}
 use Rattle.recurrence.specs.Weight.{Prices}
 
@@ -58,20 +57,11 @@ pub record Held (w : ℕ → ℕ → ℕ) (b l n m t : ℕ) (xs ys cs : List ℕ
   pub priced : Prices w t cs
 
 module _ {w : ℕ → ℕ → ℕ} {b l n m t : ℕ} {xs ys cs : List ℕ} (held : Held w b l n m t xs ys cs) where
-  entry-fits : (d s : ℕ) → s ≤ n → costAt w l d s < 256 ^ costBytes
-  entry-fits d s h =
-      elim (decLt s (room l 0 d)) [
-        | yes g ↦ omega (arith, cost-none w l d s g)
-        | no g ↦ (
-            let long : room l 0 d ≤ s = omega arith in
-            omega (arith, cost-some w l d s long, least-most w b l 0 n (held .each) d s long h, mul-le-mul-left b h)
-            )
-      ]
-
   row-right : (d s : ℕ) → d < m → room l 0 d ≤ s → s < t → rowsOf n ys d s ≡ least w l 0 d s
   row-right d s h g k =
       ap (λ (zs : List ℕ). rowsOf n zs d s) (held .filled)
-      ∙ fill-here costBytes n m (costAt w l) xs t d s h k (omega arith) (held .space) (entry-fits d s (omega arith))
+      ∙ fill-here costBytes n m (costAt w l) xs t d s h k (omega arith) (held .space)
+      (omega (arith, cost-most w b l n (held .each) (omega arith) d s (omega arith)))
       ∙ cost-some w l d s g
 
   alike : (d : ℕ) → d < m → Alike (pricesOf cs) w l 0 (rowsOf n ys) (least w l 0) d t
