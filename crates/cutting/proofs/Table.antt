@@ -3,12 +3,14 @@
 -- Assumes nothing.
 use Prim.Native.Nat.{ℕ, suc, _+_, _-_, _*_, _≤_, _<_}
 use mathlib.Core.Path.{_≡_, refl, sym, _∙_, subst, subst⁻¹}
+use native.Mathlib.Nat.{mul-le-mul-left}
 use native.Mathlib.Decide.{decLt}
 use native.Mathlib.Omega.{arith}
 use borrow.Author.Tests.{lt-ltb, le-ltb}
-use Rattle.cutting.specs.Costs.{Agree}
+use Rattle.cutting.specs.Costs.{Agree, Within}
 use Rattle.cutting.specs.Recurrence.{Found, room, leastFrom, lastFrom, least, last, walk, chosen}
 use Rattle.cutting.specs.Table.{noCost, noStart, orNone, costAt, startAt, costFrom, startFrom}
+use Rattle.cutting.proofs.Bound.{least-most}
 use Rattle.cutting.proofs.Least.{least-from}
 use Rattle.cutting.proofs.Same.{Alike, least-alike, last-alike, least-same, last-same}
 use Rattle.cutting.proofs.Scan.{found-from, walk-chosen}
@@ -43,6 +45,18 @@ module _ (w : ℕ → ℕ → ℕ) (l k t : ℕ) where
   pub start-some : room l 0 k ≤ t → startAt w l k t ≡ last w l 0 k t
   unfolding startAt
   start-some h = is-some noStart l k t _ h
+
+-- where no segment costs more than b for each observation, and all of them cost no more than the mark, no entry does
+pub cost-most :
+    (w : ℕ → ℕ → ℕ) (b l n : ℕ) → Within w b l 0 n → b * n ≤ noCost → (k t : ℕ) → t ≤ n → costAt w l k t ≤ noCost
+cost-most w b l n each whole k t h =
+    elim (decLt t (room l 0 k)) [
+      | yes g ↦ omega (arith, cost-none w l k t g)
+      | no g ↦ (
+          let long : room l 0 k ≤ t = omega arith in
+          omega (arith, cost-some w l k t long, least-most w b l 0 n each k t long h, mul-le-mul-left b h)
+          )
+    ]
 
 -- entries of costs that agree on every segment
 module _ (v w : ℕ → ℕ → ℕ) (l n : ℕ) (e : Agree v w l 0 n) (k t : ℕ) (m : t ≤ n) where

@@ -1,6 +1,6 @@
 -- Cuttings of a run of observations into segments, their cost, and the choice among them. The run is p .. t-1, `w s t`
 -- is the cost of the one segment s .. t-1, and `l` is the least number of observations in a segment. A record's own
--- cuttings are those with p = 0 and l = 1.
+-- cuttings are those with p = 0 and the `leastLength` of `Limits`.
 -- Assumes nothing.
 use Prim.Native.Nat.{ℕ, _+_, _≤_, _<_}
 use mathlib.Core.Path.{_≡_}

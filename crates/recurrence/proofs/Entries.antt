@@ -3,11 +3,10 @@
 -- Assumes nothing.
 use Prim.Native.Nat.{ℕ, suc, _+_, _*_, _^_, _≤_, _<_}
 use native.Mathlib.Nat.{mul-le-mul-left}
-use native.Mathlib.Decide.{decLt}
 use native.Mathlib.Omega.{arith}
 use mathlib.Core.Path.{_≡_, refl, sym, _∙_, ap}
 use mathlib.Core.List.{List}
-use lib.ListN.{length, getD}
+use lib.ListN.{length}
 use Rattle.table.specs.Fill.{fill, fillColumn}
 use Rattle.table.proofs.Fill.{column-other, column-ext, fill-more, fill-here}
 use Rattle.cutting.specs.Costs.{Within}
@@ -16,8 +15,9 @@ use Rattle.cutting.specs.Recurrence.{room, least}
 use Rattle.cutting.specs.Table.{costAt, startAt, costFrom, startFrom}
 use Rattle.cutting.proofs.Bound.{least-most}
 use Rattle.cutting.proofs.Same.{Alike}
-use Rattle.cutting.proofs.Table.{cost-none, cost-some, cost-alike, start-alike, cost-from, start-from}
+use Rattle.cutting.proofs.Table.{cost-some, cost-most, cost-alike, start-alike, cost-from, start-from}
 use Rattle.recurrence.specs.Column.{rowsOf, pricesOf}
+use Rattle.recurrence.specs.Weight.{Prices}
 
 -- while column t is filled, the rows before it stay: ys is the table xs with some of the column
 module _ (n : ℕ) (f : ℕ → ℕ) (t m : ℕ) (xs ys : List ℕ) (upto : t ≤ n) (filled : ys ≡ fillColumn costBytes n f t m xs) where
@@ -35,6 +35,16 @@ module _ (n : ℕ) (f : ℕ → ℕ) (t m : ℕ) (xs ys : List ℕ) (upto : t �
     pub start-kept : x ≡ startFrom w l (rowsOf n ys) k t → x ≡ startFrom w l (rowsOf n xs) k t
     start-kept e = e ∙ start-alike w w l _ _ k t kept
 
+-- A table vs whose columns below t are filled from us by the rule f, and its column t by g, is filled one column further, where g is f at t.
+next :
+    (k n m : ℕ) (f : ℕ → ℕ → ℕ) (g : ℕ → ℕ) (t : ℕ) (us vs zs : List ℕ) → ((d : ℕ) → d < m → g d ≡ f d t) →
+    vs ≡ fill k n m f t us → zs ≡ fillColumn k n g t m vs → zs ≡ fill k n m f (t + 1) us
+next k n m f g t us vs zs same before e =
+    e
+    ∙ column-ext k n g (λ d. f d t) t vs m same
+    ∙ ap (fillColumn k n (λ d. f d t) t m) before
+    ∙ sym (fill-more k n m f us t)
+
 -- What holds of the cost table before column t is worked: its columns below t have the entries, ys for the lent xs, and cs has the costs
 -- of the last segments; a segment has at least l observations, and costs at most b for each.
 pub record Held (w : ℕ → ℕ → ℕ) (b l n m t : ℕ) (xs ys cs : List ℕ) : Type 0 where
@@ -44,23 +54,14 @@ pub record Held (w : ℕ → ℕ → ℕ) (b l n m t : ℕ) (xs ys cs : List ℕ
   pub space : costBytes * (m * (n + 1)) ≤ length xs
   pub upto : t ≤ n
   pub filled : ys ≡ fill costBytes n m (costAt w l) t xs
-  pub priced : (s : ℕ) → s < t → getD cs s 0 ≡ w s t
+  pub priced : Prices w t cs
 
 module _ {w : ℕ → ℕ → ℕ} {b l n m t : ℕ} {xs ys cs : List ℕ} (held : Held w b l n m t xs ys cs) where
-  entry-fits : (d s : ℕ) → s ≤ n → costAt w l d s < 256 ^ costBytes
-  entry-fits d s h =
-      elim (decLt s (room l 0 d)) [
-        | yes g ↦ omega (arith, cost-none w l d s g)
-        | no g ↦ (
-            let long : room l 0 d ≤ s = omega arith in
-            omega (arith, cost-some w l d s long, least-most w b l 0 n (held .each) d s long h, mul-le-mul-left b h)
-            )
-      ]
-
   row-right : (d s : ℕ) → d < m → room l 0 d ≤ s → s < t → rowsOf n ys d s ≡ least w l 0 d s
   row-right d s h g k =
       ap (λ (zs : List ℕ). rowsOf n zs d s) (held .filled)
-      ∙ fill-here costBytes n m (costAt w l) xs t d s h k (omega arith) (held .space) (entry-fits d s (omega arith))
+      ∙ fill-here costBytes n m (costAt w l) xs t d s h k (omega arith) (held .space)
+      (omega (arith, cost-most w b l n (held .each) (omega arith) d s (omega arith)))
       ∙ cost-some w l d s g
 
   alike : (d : ℕ) → d < m → Alike (pricesOf cs) w l 0 (rowsOf n ys) (least w l 0) d t
@@ -85,18 +86,10 @@ module _ {w : ℕ → ℕ → ℕ} {b l n m t : ℕ} {xs ys cs : List ℕ} (held
   pub costs-more :
       (zs : List ℕ) → zs ≡ fillColumn costBytes n (λ d. costFrom (pricesOf cs) l (rowsOf n ys) d t) t m ys →
       zs ≡ fill costBytes n m (costAt w l) (t + 1) xs
-  costs-more zs e =
-      e
-      ∙ column-ext costBytes n _ (λ d. costAt w l d t) t ys m (λ d h. cost-from _ w l _ d t (alike d h))
-      ∙ ap (fillColumn costBytes n (λ d. costAt w l d t) t m) (held .filled)
-      ∙ sym (fill-more costBytes n m (costAt w l) xs t)
+  costs-more zs = next costBytes n m (costAt w l) _ t xs ys zs (λ d h. cost-from _ w l _ d t (alike d h)) (held .filled)
 
   pub starts-more :
       (us vs zs : List ℕ) → vs ≡ fill startBytes n m (startAt w l) t us →
       zs ≡ fillColumn startBytes n (λ d. startFrom (pricesOf cs) l (rowsOf n ys) d t) t m vs →
       zs ≡ fill startBytes n m (startAt w l) (t + 1) us
-  starts-more us vs zs before e =
-      e
-      ∙ column-ext startBytes n _ (λ d. startAt w l d t) t vs m (λ d h. start-from _ w l _ d t (alike d h))
-      ∙ ap (fillColumn startBytes n (λ d. startAt w l d t) t m) before
-      ∙ sym (fill-more startBytes n m (startAt w l) us t)
+  starts-more us vs zs = next startBytes n m (startAt w l) _ t us vs zs (λ d h. start-from _ w l _ d t (alike d h))

@@ -12,10 +12,11 @@ use Rattle.cutting.specs.Limits.{largestLevel}
 use Rattle.kernel.specs.declared.Kernel.{Kernel}
 use Rattle.kernel.specs.Kernel.{far}
 use Rattle.kernel.specs.Pairs.{sum, pairs, All}
+use Rattle.kernel.specs.Cost.{unitsOf}
 use Rattle.kernel.proofs.Slices.{sum-back, pairs-front, all-slice}
 use Rattle.kernel.proofs.Limits.{sum-le}
 use Rattle.kernel.proofs.Level.{dist-le}
-use Rattle.recurrence.specs.Weight.{Levels, between, tail, Tails, total, levelCost, mostPair, mostEach}
+use Rattle.recurrence.specs.Weight.{Levels, between, tail, Tails, total, levelCost, tailCost, mostPair, mostEach}
 
 -- ---- lists by their indices
 pub all-at : (P : ℕ → Type 0) (l : List ℕ) → ((i : ℕ) → i < length l → P (getD l i 0)) → All P l
@@ -65,7 +66,7 @@ module _ (a : List ℕ) (t : ℕ) (b : t ≤ length a) where
   total-small c h (suc m) s e = omega (arith, total-more s (omega arith), h s (omega arith), total-small c h m (suc s) (omega arith))
 
   -- the tails of s .. t - 1 sum to the pairs of s .. t - 1
-  pub tails-pairs : (k : Kernel) (u : List ℕ) → t ≤ length u → Tails k u t a →
+  tails-pairs : (k : Kernel) (u : List ℕ) → t ≤ length u → Tails k u t a →
       (m s : ℕ) → s + m ≡ t → total (slice s t a) ≡ pairs (between k) (slice s t u)
   tails-pairs k u l h zero s e =
       total-none s (omega arith) ∙ sym (ap (pairs (between k)) (slice-none s t u (omega arith)))
@@ -74,8 +75,14 @@ module _ (a : List ℕ) (t : ℕ) (b : t ≤ length a) where
       ∙ ap₂ _+_ (h s (omega arith)) (tails-pairs k u l h m (suc s) (omega arith))
       ∙ sym (pairs-front (between k) s t u 0 (omega arith) l)
 
+  -- so both costs are one
+  pub tail-costs : (k : Kernel) (u : List ℕ) → t ≤ length u → Tails k u t a → (s : ℕ) → s ≤ t → tailCost a s t ≡ levelCost k u s t
+  tail-costs k u l h s e = ap (λ (r : ℕ). unitsOf r (t - s)) (tails-pairs k u l h (t - s) s (omega arith))
+
 -- ---- costs
-pairs-small : (d : ℕ → ℕ → ℕ) (P : ℕ → Type 0) (c : ℕ) → ((x y : ℕ) → P x → P y → d x y ≤ c) → (l : List ℕ) → All P l → pairs d l ≤ length l * (length l * c)
+pairs-small :
+    (d : ℕ → ℕ → ℕ) (P : ℕ → Type 0) (c : ℕ) → ((x y : ℕ) → P x → P y → d x y ≤ c) → (l : List ℕ) → All P l →
+    pairs d l ≤ length l * (length l * c)
 pairs-small d P c h [] p = omega arith
 pairs-small d P c h (x ∷ l) p =
     omega (arith, pairs-small d P c h l (p .1), sum-le P (d x) c (λ y q. h x y (p .0) q) l (p .1))

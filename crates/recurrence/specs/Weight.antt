@@ -30,9 +30,16 @@ Tails k u t a = (s : ℕ) → s < t → getD a s 0 ≡ tail k u s t
 abbrev pub total : List ℕ → ℕ
 total l = sum (λ x. x) l
 
--- the cost of observations s .. t - 1, in pair form
+-- the cost of observations s .. t - 1, in pair form, and from the tails of the first t
 abbrev pub levelCost : Kernel → List ℕ → ℕ → ℕ → ℕ
 levelCost k u s t = unitsOf (pairs (between k) (slice s t u)) (t - s)
+
+abbrev pub tailCost : List ℕ → ℕ → ℕ → ℕ
+tailCost a s t = unitsOf (total (slice s t a)) (t - s)
+
+-- c has the costs of the last segments of the first t, by their starts
+abbrev pub Prices : (ℕ → ℕ → ℕ) → ℕ → List ℕ → Type 0
+Prices w t c = (s : ℕ) → s < t → getD c s 0 ≡ w s t
 
 -- the most that a pair adds, that a tail holds, and that a segment costs for each of its observations
 abbrev pub mostPair : ℕ

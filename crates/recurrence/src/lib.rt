@@ -1,15 +1,13 @@
 // The recurrence of source 004 over a run of levels: Algorithm 3 in pair form. One running column of tails is held through the whole run,
 // and the two lent byte tables are filled column by column.
 ghost use mathlib.Core.Path.{_≡_};
-ghost use Prim.Native.Nat.{ℕ, _+_, _-_, _*_, _^_, _≤_, _<_};
+ghost use Prim.Native.Nat.{ℕ, _+_, _*_, _^_, _≤_, _<_};
 ghost use lib.ListN.{length, getD};
-ghost use lib.Seq.{slice};
 ghost use Rattle.cutting.specs.Limits.{mostObservations, mostSegments, costBytes};
 ghost use Rattle.cutting.specs.Recurrence.{Found};
-ghost use Rattle.kernel.specs.Cost.{unitsOf};
 ghost use Rattle.recurrence.specs.Column.{sumAt, cellCost, cellStart, costColumn, startColumn, Sums};
 ghost use Rattle.recurrence.specs.Tables.{Lent, costTable, startTable};
-ghost use Rattle.recurrence.specs.Weight.{mostTail, Levels, Tails, total, levelCost};
+ghost use Rattle.recurrence.specs.Weight.{mostTail, Levels, Tails, levelCost, tailCost, Prices};
 use cutting::COST_BYTES;
 use cutting::LEAST_LENGTH;
 use cutting::MOST_OBSERVATIONS;
@@ -120,7 +118,7 @@ fn grow(k: Kernel, u: &[u64], a: &mut [u64], t: usize)
 fn price(a: &[u64], c: &mut [u64], t: usize)
     requires { ⌜ (t ≤ length (now a)) × (t ≤ length (now c)) × (t ≤ mostObservations) ⌝ }
     requires { ⌜ ((s : ℕ) → s < t → getD (now a) s 0 ≤ mostTail) ⌝ }
-    ensures { λ _. ⌜ ((s : ℕ) → s < t → getD (now (c .exit)) s 0 ≡ unitsOf (total (slice s t (now (a .entry)))) (t - s)) ⌝ }
+    ensures { λ _. ⌜ Prices (tailCost (now (a .entry))) t (now (c .exit)) ⌝ }
 {
     let mut s = t;
     let mut m: u64 = 0;

@@ -80,7 +80,12 @@ loop-again c =
       omega arith,
       simp length-set (omega arith),
       set-more _ (l .a) (l .s) _ (omega arith) (l .inv .2)
-          (omega (arith, l .inv .3 (l .s) (omega arith) (omega arith), c .distance .ensures, tail-more (a .k) (now (a .u)) (l .s) (a .t) (omega arith) (omega arith))),
+          (omega (
+            arith,
+            l .inv .3 (l .s) (omega arith) (omega arith),
+            c .distance .ensures,
+            tail-more (a .k) (now (a .u)) (l .s) (a .t) (omega arith) (omega arith),
+          )),
       λ j p q. getD-set-other (l .a) (l .s) j _ 0 (omega arith) ∙ l .inv .3 j (omega arith) q,
     )
 

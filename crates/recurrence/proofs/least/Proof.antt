@@ -76,9 +76,11 @@ loop-again c =
     let a = c .before .before .before .before .before .before .before .before .args in
     let l = c .before .before .before .before .loop in
     let f = sumAt (now (a .costs)) (a .row) (now (a .c)) in
+    let lower = found-lower f (a .lo) (l .s) (l .cost) (l .start) (f (l .s)) (omega arith) (l .inv .2) refl in
+    let keep = found-keep f (a .lo) (l .s) (l .cost) (l .start) (f (l .s)) (omega arith) (l .inv .2) refl in
     ⊎-elim
-    (λ w. (omega arith, omega arith, (w .2 ∙ found-lower f (a .lo) (l .s) (l .cost) (l .start) (f (l .s)) (omega arith) (l .inv .2) refl (omega arith) .0, omega (arith, ap f (w .2)))))
-    (λ w. (omega arith, omega arith, (w .2 ∙ found-keep f (a .lo) (l .s) (l .cost) (l .start) (f (l .s)) (omega arith) (l .inv .2) refl (omega arith) .0, omega (arith, ap f (w .2)))))
+    (λ w. (omega arith, omega arith, (w .2 ∙ lower (omega arith) .0, omega (arith, ap f (w .2)))))
+    (λ w. (omega arith, omega arith, (w .2 ∙ keep (omega arith) .0, omega (arith, ap f (w .2)))))
     (c .if1 .came)
 
 returns : tie.Need-returns Inv-loop μ-loop

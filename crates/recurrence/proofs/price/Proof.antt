@@ -10,7 +10,7 @@ use denote.Ref.{now}
 use Rattle.table.proofs.Num.{set-back}
 use Rattle.cutting.specs.Limits.{mostObservations}
 use Rattle.kernel.specs.Cost.{unitsOf}
-use Rattle.recurrence.specs.Weight.{mostTail, mostEach, total}
+use Rattle.recurrence.specs.Weight.{mostTail, mostEach, total, tailCost}
 use Rattle.recurrence.proofs.Weight.{total-none, total-more, total-small}
 use Rattle.recurrence.proofs.price.Statement.{statement}
 use Rattle.recurrence.proofs.price.Tie as tie
@@ -21,7 +21,7 @@ Inv-loop a c₀ t s₀ m₀ r₀ c s m r =
     × (m ≡ t - s)
     × (r ≡ total (slice s t a))
     × (length c ≡ length c₀)
-    × ((j : ℕ) → s ≤ j → j < t → getD c j 0 ≡ unitsOf (total (slice j t a)) (t - j))
+    × ((j : ℕ) → s ≤ j → j < t → getD c j 0 ≡ tailCost a j t)
 
 abbrev μ-loop : tie.MeasureT-loop
 μ-loop a c₀ t s₀ m₀ r₀ c s m r = s
@@ -41,7 +41,12 @@ module _ (c : tie.In-loop Inv-loop μ-loop) where
   summed-small : summed ≤ (c .before .loop .m + 1) * mostTail
   summed-small =
       let b = c .before .before .before .before in
-      omega (arith, summed-is, total-small (now (b .args .a)) (b .args .t) (omega arith) mostTail (b .pre .1) (c .before .loop .m + 1) (c .before .loop .s - 1) (omega arith))
+      let l = c .before .loop in
+      omega (
+        arith,
+        summed-is,
+        total-small (now (b .args .a)) (b .args .t) (omega arith) mostTail (b .pre .1) (l .m + 1) (l .s - 1) (omega arith),
+      )
 
   cost-small : unitsOf summed (c .before .loop .m + 1) ≤ mostEach * mostObservations
   cost-small = div-le-of-le-mul (c .before .loop .m + 1) (omega (arith, summed-small))
@@ -88,7 +93,7 @@ loop-again c =
       e,
       summed-is i,
       simp length-set (omega arith),
-      set-back (λ j. unitsOf (total (slice j (a .t) (now (a .a)))) (a .t - j)) (l .c) (l .s - 1) (a .t) (c .units .result) (omega arith)
+      set-back (λ j. tailCost (now (a .a)) j (a .t)) (l .c) (l .s - 1) (a .t) (c .units .result) (omega arith)
           (λ j p q. l .inv .4 j (omega arith) q)
           (c .units .ensures ∙ rw (summed-is i, e)),
     )
