@@ -1,6 +1,7 @@
-pub mod Lengths
-pub mod Pieces
-pub mod Tables
-pub mod Buffer
-pub mod Term
+-- Laws that the functions' proofs and the promises cite. Another crate cites those of `Promises`.
+mod Buffer
+mod Lengths
+mod Pieces
+mod Tables
+mod Solved
 pub mod Promises

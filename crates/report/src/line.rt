@@ -1,5 +1,7 @@
 // The lines, piece by piece.
+ghost use mathlib.Core.Path.{_≡_};
 ghost use Prim.Native.Nat.{_+_, _≤_, _<_};
+ghost use lib.ListN.{length};
 ghost use lib.Seq.{slice};
 ghost use Rattle.cutting.specs.Limits.{mostSegments};
 ghost use Rattle.text.specs.Text.{Put};
@@ -19,7 +21,7 @@ const COLON: u8 = 58;
 pub struct Line {
     pub d: usize,
     pub cost: u64,
-    pub starts: [u64; 12],
+    pub starts: [u64; cutting::MOST_SEGMENTS],
 }
 
 // The code and the place of a reply.
@@ -55,8 +57,8 @@ fn put_cut(out: &mut [u8], at: usize, index: Index, date: Day) -> usize
 }
 
 // The cuts of a line: those of all segments but the first.
-fn put_cuts(out: &mut [u8], at: usize, body: &[u8], starts: &[u64; 12], d: usize) -> usize
-    requires { ⌜ (at + cutsLength < farthest) × (1 ≤ d) × (d ≤ mostSegments) ⌝ }
+fn put_cuts(out: &mut [u8], at: usize, body: &[u8], starts: &[u64], d: usize) -> usize
+    requires { ⌜ (at + cutsLength < farthest) × (1 ≤ d) × (d ≤ mostSegments) × (mostSegments ≤ length (now starts)) ⌝ }
     ensures { λ next. ⌜ Put (now (out .entry)) at (cutsText (now (body .entry)) (slice 1 d (now (starts .entry)))) (now (out .exit)) next ⌝ }
     ensures { λ next. ⌜ next ≤ at + cutsLength ⌝ }
 {
@@ -73,7 +75,7 @@ fn put_cuts(out: &mut [u8], at: usize, body: &[u8], starts: &[u64; 12], d: usize
 
 // One line: the segment count, the cost in units, and the cuts.
 pub fn put_line(out: &mut [u8], at: usize, body: &[u8], line: Line) -> usize
-    requires { ⌜ (at + lineLength < farthest) × (1 ≤ line .d) × (line .d ≤ mostSegments) ⌝ }
+    requires { ⌜ (at + lineLength < farthest) × (1 ≤ line .d) × (line .d ≤ mostSegments) × (length (line .starts) ≡ mostSegments) ⌝ }
     ensures { λ next. ⌜ Put (now (out .entry)) at (lineText (now (body .entry)) line) (now (out .exit)) next ⌝ }
     ensures { λ next. ⌜ next ≤ at + lineLength ⌝ }
 {

@@ -18,12 +18,14 @@ use record::Asked;
 use reply::Reply;
 use walk::Sought;
 
-const COST_BYTES: usize = 8;
-
 // The largest tables that a record can need: 12 rows of 401 entries, of 8 and 2 bytes.
-const COST_ROOM: usize = 38496;
+const COST_ROOM: usize = cutting::COST_BYTES
+    * cutting::MOST_SEGMENTS
+    * (cutting::MOST_OBSERVATIONS + 1);
 
-const START_ROOM: usize = 9624;
+const START_ROOM: usize = cutting::START_BYTES
+    * cutting::MOST_SEGMENTS
+    * (cutting::MOST_OBSERVATIONS + 1);
 
 // Room for all lines of a term, and for the line of a refused file.
 const TEXT_ROOM: usize = 6200;
@@ -42,7 +44,11 @@ fn line_at(asked: Asked, body: &[u8], costs: &[u8], starts: &[u8], k: usize) -> 
     ensures { λ r. ⌜ r ≡ lineAt asked (now (body .entry)) (now (costs .entry)) (now (starts .entry)) k ⌝ }
 {
     let n = body.len() / record::OBSERVATION_BYTES;
-    let cost = table::load(costs, COST_BYTES * (k * (n + 1) + n), COST_BYTES);
+    let cost = table::load(
+        costs,
+        cutting::COST_BYTES * (k * (n + 1) + n),
+        cutting::COST_BYTES,
+    );
     let d = k + 1;
     let sought = Sought {
         n,

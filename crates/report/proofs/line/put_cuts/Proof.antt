@@ -24,24 +24,21 @@ abbrev μ-loop : tie.MeasureT-loop
 
 loop-holds : tie.Need-loop-holds Inv-loop μ-loop
 loop-holds c =
-    let s = c .before .before .before in
-    (omega arith, omega arith, retell (sym (ap (cutsText (now (s .args .body))) (slice-empty 1 (now (s .args .starts))))) (put-nothing _ _))
+    let a = c .before .before .before .args in
+    (omega arith, omega arith, retell (sym (ap (cutsText (now (a .body))) (slice-empty 1 (now (a .starts))))) (put-nothing _ _))
 
-mul-s : tie.Need-mul-s Inv-loop μ-loop
-mul-s c = omega arith
+mul-t11 : tie.Need-mul-t11 Inv-loop μ-loop
+mul-t11 c = omega arith
 
-shared-slice-read-s : tie.Need-shared-slice-read-s Inv-loop μ-loop
-shared-slice-read-s c = omega arith
+shared-slice-read-t13 : tie.Need-shared-slice-read-t13 Inv-loop μ-loop
+shared-slice-read-t13 c = omega arith
 
 date-at-requires : tie.Need-date-at-requires Inv-loop μ-loop
 date-at-requires c κs = search needs
 
-cast-put-cut : tie.Need-cast-put-cut Inv-loop μ-loop
-cast-put-cut c = search needs
-
 put-cut-requires : tie.Need-put-cut-requires Inv-loop μ-loop
 put-cut-requires c κs =
-    let at = c .before .before .before .before .before in
+    let at = c .before .before .before .before in
     let s = at .before .before .before .before in
     omega (
       arith,
@@ -50,15 +47,15 @@ put-cut-requires c κs =
     )
 
 add-i : tie.Need-add-i Inv-loop μ-loop
-add-i c = omega (arith, c .before .before .before .before .before .before .before)
+add-i c = omega (arith, c .before .before .before .before .before .before)
 
 loop-less : tie.Need-loop-less Inv-loop μ-loop
-loop-less c = omega (arith, c .before .before .before .before .before .before .before)
+loop-less c = omega (arith, c .before .before .before .before .before .before)
 
 loop-again : tie.Need-loop-again Inv-loop μ-loop
 loop-again c =
     let p = c .before .before in
-    let date = p .before .before .before in
+    let date = p .before .before in
     let in-loop = date .before .before in
     let at = in-loop .before in
     let s = at .before .before .before .before in
@@ -94,10 +91,9 @@ put-cuts-spec =
     Inv-loop
     μ-loop
     loop-holds
-    mul-s
-    shared-slice-read-s
+    mul-t11
+    shared-slice-read-t13
     date-at-requires
-    cast-put-cut
     put-cut-requires
     add-i
     loop-less

@@ -14,11 +14,14 @@ put-byte-requires c κs = search needs
 put-number-requires-2 : tie.Need-put-number-requires-2
 put-number-requires-2 c κs = search needs
 
+slice-aggregate-put-cuts : tie.Need-slice-aggregate-put-cuts
+slice-aggregate-put-cuts c = search needs
+
 put-cuts-requires : tie.Need-put-cuts-requires
-put-cuts-requires c κs = omega arith
+put-cuts-requires c κs = search needs
 
 put-byte-requires-2 : tie.Need-put-byte-requires-2
-put-byte-requires-2 c κs = omega arith
+put-byte-requires-2 c κs = search needs
 
 same-length : tie.Need-same-length
 same-length c = search needs
@@ -27,7 +30,7 @@ returns : tie.Need-returns
 returns c =
     let byte2 = c .before .before in
     let cuts = byte2 .before .before .before .before in
-    let number2 = cuts .before .before .before .before in
+    let number2 = cuts .before .before .before .before .before in
     let byte = number2 .before .before .before .before in
     let number = byte .before .before .before .before in (
       then (number .put-number .ensures .0)
@@ -44,4 +47,14 @@ returns c =
     )
 
 pub put-line-spec : {M : Type 1} → statement M
-put-line-spec = tie.close (tie.spec put-number-requires put-byte-requires put-number-requires-2 put-cuts-requires put-byte-requires-2 same-length returns)
+put-line-spec =
+    tie.close
+    (tie.spec
+    put-number-requires
+    put-byte-requires
+    put-number-requires-2
+    slice-aggregate-put-cuts
+    put-cuts-requires
+    put-byte-requires-2
+    same-length
+    returns)

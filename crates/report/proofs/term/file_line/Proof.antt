@@ -7,7 +7,7 @@ use lib.ListN.{length}
 use denote.Ref.{now}
 use borrow.Author.Needs.{needs}
 use Rattle.text.proofs.Pieces.{then, front, put-length}
-use Rattle.report.specs.Written.{writtenOf, outAfter}
+use Rattle.report.specs.Written.{writtenOf, outLeft}
 use Rattle.report.proofs.Lengths.{file-length, reply-length}
 use Rattle.report.proofs.term.file_line.Statement.{statement}
 use Rattle.report.proofs.term.file_line.Tie as tie
@@ -56,7 +56,7 @@ returns c =
     let short = file-length (s .args .r) in
     let text = front (then (word .put-word .ensures) (reply .put-reply .ensures)) (omega arith) in (
       h .hand-over .ensures .0 ∙ ap (λ (t : List ℕ). writtenOf t (length (now (s .args .out)))) text,
-      h .hand-over .ensures .1 ∙ ap (λ (t : List ℕ). outAfter t (now (s .args .out))) text,
+      h .hand-over .ensures .1 ∙ ap (λ (t : List ℕ). outLeft t (now (s .args .out))) text,
     )
 
 pub file-line-spec : {M : Type 1} → statement M

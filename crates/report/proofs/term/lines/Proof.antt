@@ -1,14 +1,14 @@
 -- `report::term::lines` meets its contract: the text fits its own buffer, and is handed over. Assumes nothing.
+use Prim.Native.Nat.{ℕ}
 use mathlib.Core.Path.{ap, _∙_}
 use mathlib.Core.List.{List}
-use Prim.Native.Nat.{ℕ}
 use native.Mathlib.Omega.{arith}
 use lib.ListN.{length}
 use denote.Ref.{now}
 use borrow.Author.Needs.{needs}
 use Rattle.text.proofs.Pieces.{front, put-length}
-use Rattle.report.specs.Written.{writtenOf, outAfter}
-use Rattle.report.proofs.Term.{lines-length}
+use Rattle.report.specs.Written.{writtenOf, outLeft}
+use Rattle.report.proofs.Solved.{lines-length}
 use Rattle.report.proofs.term.lines.Statement.{statement}
 use Rattle.report.proofs.term.lines.Tie as tie
 
@@ -31,7 +31,7 @@ hand-over-requires : tie.Need-hand-over-requires
 hand-over-requires c κs =
     let p = c .before .before .before .before .before in
     let a = p .before .before .before .before .before .before .args in
-    omega (arith, p .put-lines .ensures .end, put-length (p .put-lines .ensures), lines-length (a .term) (a .kernel) (a .kind) (a .d) (now (a .body)))
+    omega (arith, p .put-lines .ensures .end, put-length (p .put-lines .ensures), lines-length (a .asked) (now (a .body)) (a .term))
 
 same-length : tie.Need-same-length
 same-length c = search needs
@@ -41,10 +41,10 @@ returns c =
     let h = c .before .before in
     let p = h .before .before .before .before .before .before in
     let a = p .before .before .before .before .before .before .args in
-    let short = lines-length (a .term) (a .kernel) (a .kind) (a .d) (now (a .body)) in
+    let short = lines-length (a .asked) (now (a .body)) (a .term) in
     let text = front (p .put-lines .ensures) (omega arith) in (
       h .hand-over .ensures .0 ∙ ap (λ (t : List ℕ). writtenOf t (length (now (a .out)))) text,
-      h .hand-over .ensures .1 ∙ ap (λ (t : List ℕ). outAfter t (now (a .out))) text,
+      h .hand-over .ensures .1 ∙ ap (λ (t : List ℕ). outLeft t (now (a .out))) text,
     )
 
 pub lines-spec : {M : Type 1} → statement M
