@@ -3,3 +3,4 @@ pub mod Lines
 pub mod Tables
 pub mod Printed
 pub mod Written
+pub mod Example
