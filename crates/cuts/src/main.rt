@@ -2,11 +2,19 @@
 // order. It reads one byte more than the longest file has and no further.
 ghost use mathlib.Core.Path.{_≡_};
 ghost use Prim.Native.Nat.{_<_};
-ghost use Rattle.file.specs.Layout.{countIn};
-ghost use Rattle.file.specs.File.{readReply};
+ghost use Rattle.file.specs.Contents.{countIn};
+ghost use Rattle.file.specs.Tries.{readReply};
 use libc::STDIN_FILENO;
 use libc::STDOUT_FILENO;
 use report::Written;
+
+// One byte more than the longest file has.
+const INPUT_ROOM: usize = 65537;
+
+// Room for all lines of a term, and for the line of a refused file.
+const TEXT_ROOM: usize = 6200;
+
+const LINE_ROOM: usize = 64;
 
 // Writes out a text that stands at the front of a buffer, and answers whether all of it went.
 fn print_text(w: Written, text: &[u8]) -> bool {
@@ -25,7 +33,7 @@ fn print_text(w: Written, text: &[u8]) -> bool {
 fn print_term(file: &[u8], i: usize) -> bool
     requires { ⌜ (readReply (now file) .code ≡ 0) × (i < countIn (now file)) ⌝ }
 {
-    let mut text = [0u8; 6200];
+    let mut text = [0u8; TEXT_ROOM];
     let w = report::term_lines(file, i, &mut text);
     print_text(w, &text)
 }
@@ -47,7 +55,7 @@ fn print_terms(file: &[u8])
 fn print_file(file: &[u8]) {
     let r = file::read_file(file);
     if r.code != 0 {
-        let mut line = [0u8; 64];
+        let mut line = [0u8; LINE_ROOM];
         let w = report::file_line(r, &mut line);
         print_text(w, &line);
         return;
@@ -56,7 +64,7 @@ fn print_file(file: &[u8]) {
 }
 
 fn main() {
-    let mut input = [0u8; 65537];
+    let mut input = [0u8; INPUT_ROOM];
     let n = io::read_full(STDIN_FILENO, &mut input);
     print_file(&input[..n]);
 }

@@ -21,7 +21,7 @@ use Rattle.engine.proofs.Limit as limit
 use Rattle.engine.proofs.Accepted as accept
 
 module _ (asked : Asked) (body : List ℕ) (costs starts : ℕ) where
-  given-coded : Coded (givenTries asked body costs starts)
+  pub given-coded : Coded (givenTries asked body costs starts)
   given-coded = search depth 20
 
   -- 12 is tried last, and its reason does not hold where all else is clear

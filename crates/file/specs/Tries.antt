@@ -84,6 +84,6 @@ writeReply es bs room = firstOf (writeTries es bs room)
 abbrev pub Placed : ℕ → Reply → Type 0
 Placed n r = (r .place ≡ 0) ⊎ ((22 ≤ r .code) × ((r .code ≤ 24) × ((r .place < n) × (n ≤ mostRecords))))
 
--- What the output o is after the writer's reply r: the file of what is lent, laid over it, "Output past the file's end keeps its bytes"; or as it was.
-abbrev pub written : Reply → (es bs o : List ℕ) → List ℕ
-written r es bs o = ifDone r (laid o 0 (fileOf (lentItems es bs))) o
+-- What the output o is on return: the file of what is lent, laid over it, "Output past the file's end keeps its bytes"; or, refused, as it was.
+abbrev pub fileLeft : (es bs o : List ℕ) → List ℕ
+fileLeft es bs o = ifDone (writeReply es bs (length o)) (laid o 0 (fileOf (lentItems es bs))) o

@@ -8,7 +8,7 @@ ghost use Rattle.file.specs.Limits.{mostBytes, countBytes};
 ghost use Rattle.file.specs.Layout.{inFile};
 ghost use Rattle.file.specs.Contents.{lent, entriesIn};
 ghost use Rattle.file.specs.Items.{contents, fileOf, lentItems};
-ghost use Rattle.file.specs.Tries.{roomTries, writeReply, written};
+ghost use Rattle.file.specs.Tries.{roomTries, writeReply, fileLeft};
 ghost use Rattle.file.specs.Steps.{Roomy};
 use crate::contents;
 use crate::contents::Contents;
@@ -96,7 +96,7 @@ fn put_file(entries: &[u8], bodies: &[u8], out: &mut [u8])
 // Writes the file of what is lent to `out`, or refuses and writes nothing.
 pub fn write_file(entries: &[u8], bodies: &[u8], out: &mut [u8]) -> Reply
     ensures reply { λ r. ⌜ r ≡ writeReply (now (entries .entry)) (now (bodies .entry)) (length (now (out .entry))) ⌝ }
-    ensures output { λ r. ⌜ now (out .exit) ≡ written r (now (entries .entry)) (now (bodies .entry)) (now (out .entry)) ⌝ }
+    ensures output { λ _. ⌜ now (out .exit) ≡ fileLeft (now (entries .entry)) (now (bodies .entry)) (now (out .entry)) ⌝ }
 {
     let r = judge_write(entries, bodies, out.len());
     if r.code != 0 {

@@ -3,7 +3,6 @@ use Prim.Native.Nat.{_-_, _≤_}
 use native.Mathlib.Omega.{arith}
 use denote.Ref.{now}
 use borrow.Author.Needs.{needs}
-use Rattle.file.proofs.Promises.{count-within}
 use Rattle.cuts.proofs.print_terms.Statement.{statement}
 use Rattle.cuts.proofs.print_terms.Tie as tie
 
@@ -14,7 +13,7 @@ abbrev μ-loop : tie.MeasureT-loop
 μ-loop file count i₀ i = count - i
 
 count-of-requires : tie.Need-count-of-requires Inv-loop μ-loop
-count-of-requires c κs = omega (arith, count-within (now (c .before .args .file)) (c .before .pre))
+count-of-requires c κs = search needs
 
 loop-holds : tie.Need-loop-holds Inv-loop μ-loop
 loop-holds c = omega arith

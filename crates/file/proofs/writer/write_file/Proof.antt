@@ -12,7 +12,7 @@ judge-write-requires c κs = search needs
 returns : tie.Need-returns
 returns c =
     let j = c .before .before .judge-write .ensures in
-    (j, sym (if-refused _ _ _ (c .if1 .taken)))
+    (j, sym (if-refused _ _ _ (λ z. c .if1 .taken (code-of j ∙ z))))
 
 put-file-requires : tie.Need-put-file-requires
 put-file-requires c κs = sym (code-of (c .before .before .before .judge-write .ensures)) ∙ c .before .if1 .left
@@ -23,7 +23,7 @@ same-length c = search needs
 returns-2 : tie.Need-returns-2
 returns-2 c =
     let j = c .before .before .before .before .before .before .judge-write .ensures in
-    (j, c .before .before .put-file .ensures ∙ sym (if-done _ _ _ (c .before .before .before .before .if1 .left)))
+    (j, c .before .before .put-file .ensures ∙ sym (if-done _ _ _ (sym (code-of j) ∙ c .before .before .before .before .if1 .left)))
 
 pub write-file-spec : {M : Type 1} → statement M
 write-file-spec =
