@@ -11,12 +11,13 @@ use lib.Seq.{slice, length-slice}
 use lib.IntN.{ℤ, natAbs}
 use Rattle.cutting.specs.Costs.{Rounds, Splittable}
 use Rattle.kernel.specs.Cost.{R, units, cost}
-use Rattle.kernel.specs.Pairs.{pairs, All}
+use Rattle.lists.specs.Lists.{All}
+use Rattle.kernel.specs.Pairs.{pairs}
 use Rattle.kernel.specs.True.{lcm400, exact, trueCost}
 use Rattle.kernel.proofs.Law.{Law, R-nat}
 use Rattle.kernel.proofs.Multiple.{lcm400-part, lcm400-some}
 use Rattle.kernel.proofs.Rounding.{exact-parts, exact-low, exact-high}
-use Rattle.kernel.proofs.Slices.{slice-join, all-slice}
+use Rattle.lists.proofs.Slices.{slice-join, all-slice}
 use Rattle.kernel.proofs.Split.{Splits, split-exact}
 
 -- a segment's units are 4,096 times its true cost, rounded down, whatever the kernel

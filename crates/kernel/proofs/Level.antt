@@ -14,7 +14,8 @@ use Rattle.kernel.specs.declared.Kernel.the-variants.{Linear, Spelling, 
 use Rattle.sample.specs.Level.{InRange, level}
 use Rattle.kernel.specs.Cost.{unitsOf, units}
 use Rattle.kernel.specs.Kernel.{kernel, gap, far, dist}
-use Rattle.kernel.specs.Pairs.{pairs, All}
+use Rattle.lists.specs.Lists.{All}
+use Rattle.kernel.specs.Pairs.{pairs}
 use Rattle.kernel.proofs.Diff.{up, dn, _⊖_, parts, natAbs-⊖, natAbs-parts, up-only}
 use Rattle.kernel.proofs.Kernels.{gap-parts, law}
 use Rattle.kernel.proofs.Law.{units-nat}

@@ -16,3 +16,4 @@ pub mod Exact
 pub mod Number
 pub mod Multiple
 pub mod Promises
+pub mod Pairwise

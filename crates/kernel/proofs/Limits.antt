@@ -10,7 +10,8 @@ use Rattle.kernel.specs.declared.Kernel.the-variants.{Linear, Spelling, 
 use Rattle.sample.specs.Level.{InRange}
 use Rattle.kernel.specs.Channels.{first, others, owns, InRanges}
 use Rattle.kernel.specs.Kernel.{own}
-use Rattle.kernel.specs.Pairs.{sum, All}
+use Rattle.lists.specs.Lists.{All}
+use Rattle.kernel.specs.Pairs.{sum}
 
 pub own-le : (k : Kernel) (x : ℤ) → InRange x → own k x ≤ 1000000000000
 unfolding own

@@ -10,7 +10,7 @@ use Rattle.kernel.specs.declared.Kernel.{Kernel}
 use Rattle.kernel.specs.declared.Kernel.the-variants.{Spelling}
 use Rattle.kernel.specs.Cost.{R, unitsOf, units}
 use Rattle.kernel.specs.Kernel.{gap, dist}
-use Rattle.kernel.specs.Pairs.{All}
+use Rattle.lists.specs.Lists.{All}
 use Rattle.kernel.proofs.Diff.{view, natAbs-⊖, diff}
 use Rattle.kernel.proofs.Kernels.{gap-self, gap-zero, agree}
 use Rattle.kernel.proofs.Law.{Law, R-nat}

@@ -23,7 +23,8 @@ use Rattle.cutting.specs.Recurrence.{chosenIn}
 use Rattle.kernel.specs.Channels.{channels, InRanges, each, Keeps}
 use Rattle.kernel.specs.Cost.{A, B, R, units, cost}
 use Rattle.kernel.specs.Kernel.{kernel, negative, numberOf, namedOf, gap, dist, Recodes}
-use Rattle.kernel.specs.Pairs.{pairs, All}
+use Rattle.lists.specs.Lists.{All}
+use Rattle.kernel.specs.Pairs.{pairs}
 use Rattle.kernel.specs.True.{euclid, gcd, lcm, lcmTo, lcm400, exact, trueCost}
 use Rattle.kernel.proofs.Channels.{law-channels, splits-channels, dists-kept}
 use Rattle.kernel.proofs.Exact.{rounds, true-split}

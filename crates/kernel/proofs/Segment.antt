@@ -12,13 +12,14 @@ use Rattle.sample.specs.Level.{InRange, level}
 use Rattle.cutting.specs.Costs.{Agree, mirror, Within, Splittable}
 use Rattle.kernel.specs.Cost.{unitsOf, units, cost}
 use Rattle.kernel.specs.Kernel.{kernel, far, dist}
-use Rattle.kernel.specs.Pairs.{pairs, All}
+use Rattle.lists.specs.Lists.{All}
+use Rattle.kernel.specs.Pairs.{pairs}
 use Rattle.kernel.proofs.Law.{Law, units-bound}
 use Rattle.kernel.proofs.Level.{units-level}
 use Rattle.kernel.proofs.Limits.{sum-le}
 use Rattle.kernel.proofs.Moves.{units-kept}
 use Rattle.kernel.proofs.Pairs.{R-reverse}
-use Rattle.kernel.proofs.Slices.{slice-join, slice-reverse, all-slice, slice-map}
+use Rattle.lists.proofs.Slices.{slice-join, slice-reverse, all-slice, slice-map}
 use Rattle.kernel.proofs.Split.{Splits, split-units}
 
 -- a map f of samples, to another kind and kernel perhaps, that keeps the distance of all that have the property P

@@ -14,7 +14,8 @@ use lib.IntN.{ℤ}
 use borrow.Author.Tests.{leb-true, leb-false}
 use Rattle.kernel.specs.Cost.{units}
 use Rattle.kernel.specs.Kernel.{far}
-use Rattle.kernel.specs.Pairs.{sum, pairs, All}
+use Rattle.lists.specs.Lists.{All}
+use Rattle.kernel.specs.Pairs.{sum, pairs}
 use Rattle.kernel.proofs.Law.{Law, units-nat}
 use Rattle.kernel.proofs.Rounding.{floors}
 use Rattle.kernel.proofs.Sums.{cross, pairs-append, sum-map, pairs-map}

@@ -6,7 +6,8 @@ use Prim.Native.Nat.{ℕ, _+_}
 use native.Mathlib.Omega.{arith}
 use lib.IntN.{ℤ, pos, _+ℤ_, +ℤ-idl, +ℤ-idr, +ℤ-assoc, +ℤ-comm}
 use Rattle.kernel.specs.Cost.{sumZ}
-use Rattle.kernel.specs.Pairs.{sum, pairs, All}
+use Rattle.lists.specs.Lists.{All}
+use Rattle.kernel.specs.Pairs.{sum, pairs}
 use Rattle.kernel.proofs.Diff.{⊖-eq, view, diff}
 
 module _ {S : Type 0} where

@@ -3,8 +3,10 @@
 use mathlib.Core.Path.{_≡_}
 use mathlib.Core.Bool.{Bool, true, false, cond}
 use mathlib.Core.List.{List, List·Memᴰ}
-use Prim.Native.Nat.{ℕ, _+_, _*_, _-_, _/_}
+use mathlib.Core.Logic.{_↔_}
+use Prim.Native.Nat.{ℕ, _+_, _*_, _-_, _/_, _<_}
 use lib.Dec.{eqb}
+use lib.ListN.{length, getD}
 use lib.IntN.{ℤ, pos, negsuc, natAbs, _+ℤ_, _-ℤ_, _*ℤ_}
 use Rattle.kernel.specs.declared.Kernel.{Kernel}
 use Rattle.kernel.specs.declared.Kernel.the-variants.{Linear, Spelling, Energy}
@@ -68,6 +70,13 @@ dist Energy g = g
 -- samples is equal anyway
 abbrev pub Recodes : (ℤ → ℤ) → List ℤ → Type 0
 Recodes f l = (x y : ℤ) → List·Memᴰ x l → List·Memᴰ y l → f x ≡ f y → x ≡ y
+
+-- "any recoding .. that keeps equal codes equal and unequal codes unequal": ys is xs, recoded
+pub record Recoded (xs ys : List ℤ) : Type 0 where
+  pub same-length : length ys ≡ length xs
+  pub same-equals :
+      (i j : ℕ) → i < length xs → j < length xs →
+      (getD xs i (pos 0) ≡ getD xs j (pos 0)) ↔ (getD ys i (pos 0) ≡ getD ys j (pos 0))
 
 -- k(x,x): the square; 1; the magnitude
 unfoldable pub own : Kernel → ℤ → ℕ

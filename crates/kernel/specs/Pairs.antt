@@ -1,4 +1,4 @@
--- Sums over a list's elements and over its unordered pairs, and what holds of all its elements.
+-- Sums over a list's elements and over its unordered pairs.
 -- Assumes nothing.
 use mathlib.Core.List.{List, [], _∷_}
 use Prim.Native.Nat.{ℕ, _+_}
@@ -16,8 +16,3 @@ sum f (x ∷ l) = f x + sum f l
 abbrev pub pairs : {S : Type 0} → (S → S → ℕ) → List S → ℕ
 pairs d [] = 0
 pairs d (x ∷ l) = sum (d x) l + pairs d l
-
--- every element has the property P
-abbrev pub All : {S : Type 0} → (S → Type 0) → List S → Type 0
-All P [] = Unit {0}
-All P (x ∷ l) = P x × All P l

@@ -5,29 +5,22 @@ use native.Mathlib.Numerals.{add-one}
 use native.Mathlib.Omega.{arith}
 use mathlib.Core.Path.{_≡_, sym, _∙_, ap, ap₂, subst}
 use mathlib.Core.List.{List, [], _∷_}
-use lib.ListN.{length, getD, length-take, drop-of-length-le, take}
+use lib.ListN.{length, getD}
 use lib.Seq.{slice, slice-cons, length-slice}
 use Rattle.cutting.specs.Costs.{Within}
 use Rattle.cutting.specs.Limits.{largestLevel}
 use Rattle.kernel.specs.declared.Kernel.{Kernel}
 use Rattle.kernel.specs.Kernel.{far}
-use Rattle.kernel.specs.Pairs.{sum, pairs, All}
+use Rattle.lists.specs.Lists.{All}
+use Rattle.lists.proofs.Slices.{all-slice, all-at, slice-none}
+use Rattle.kernel.specs.Pairs.{sum, pairs}
 use Rattle.kernel.specs.Cost.{unitsOf}
-use Rattle.kernel.proofs.Slices.{sum-back, pairs-front, all-slice}
+use Rattle.kernel.proofs.Slices.{sum-back, pairs-front}
 use Rattle.kernel.proofs.Limits.{sum-le}
 use Rattle.kernel.proofs.Level.{dist-le}
 use Rattle.recurrence.specs.Weight.{Levels, between, tail, Tails, total, levelCost, tailCost, mostPair, mostEach}
 
 -- ---- lists by their indices
-pub all-at : (P : ℕ → Type 0) (l : List ℕ) → ((i : ℕ) → i < length l → P (getD l i 0)) → All P l
-all-at P [] h = tt
-all-at P (x ∷ l) h = (h 0 (omega arith), all-at P l (λ i b. h (suc i) (omega arith)))
-
-slice-none : (s t : ℕ) (l : List ℕ) → t ≤ s → slice s t l ≡ []
-slice-none s t l h =
-    let short : length (take t l) ≤ s = omega (arith, length-take t l) in
-    drop-of-length-le (take t l) short
-
 -- ---- a pair
 abbrev Low : ℕ → Type 0
 Low x = x ≤ largestLevel
@@ -49,7 +42,7 @@ module _ (k : Kernel) (u : List ℕ) where
       omega (
         arith,
         sum-le Low (between k (getD u s 0)) mostPair (λ x q. between-small k (getD u s 0) x (low s (omega arith)) q)
-            (slice (suc s) t u) (all-slice Low (suc s) t u (all-at Low u low)),
+            (slice (suc s) t u) (all-slice Low (suc s) t u (all-at Low 0 u low)),
         length-slice (suc s) t u b,
       )
 
@@ -94,7 +87,7 @@ cost-small k u low _ some s t _ h b =
     let few : length l ≡ m = length-slice s t u b in
     let small : pairs (between k) l ≤ m * (m * mostPair) =
     subst (λ (x : ℕ). pairs (between k) l ≤ x * (x * mostPair)) few
-    (pairs-small (between k) Low mostPair (between-small k) l (all-slice Low s t u (all-at Low u low)))
+    (pairs-small (between k) Low mostPair (between-small k) l (all-slice Low s t u (all-at Low 0 u low)))
     in
     let cost : levelCost k u s t ≤ mostEach * m = div-le-of-le-mul m (omega arith) in
     omega arith

@@ -5,7 +5,7 @@ use mathlib.Core.List.{List, [], _∷_, _++_, append-assoc, append-nil}
 use native.Mathlib.Numerals.{add-one}
 use lib.ListN.{length, getD}
 use lib.Seq.{slice}
-use Rattle.kernel.proofs.Slices.{slice-snoc}
+use Rattle.lists.proofs.Slices.{slice-snoc}
 use Rattle.report.specs.Lines.{cutText, cutsText}
 
 cuts-append : (body c : List ℕ) (s : ℕ) → cutsText body c ++ cutText body s ≡ cutsText body (c ++ (s ∷ []))

@@ -1,6 +1,6 @@
 -- What is promised of the lines, and of what the program prints. Assumes nothing.
 use Prim.Native.Nat.{ℕ, zero, suc, _+_, _<_, _≤_}
-use mathlib.Core.Path.{_≡_, refl, sym, ap, ap₂, _∙_}
+use mathlib.Core.Path.{_≡_, refl, sym, ap, _∙_}
 use mathlib.Core.List.{List, [], _∷_, _++_, append-assoc, append-nil}
 use native.Mathlib.Omega.{arith}
 use lib.ListN.{length, take, drop, getD}
@@ -13,7 +13,8 @@ use Rattle.kernel.specs.Cost.{A, B, R, units}
 use Rattle.sample.specs.Judge.{judgedCount}
 use Rattle.reply.specs.Reply.{ifDone}
 use Rattle.reply.specs.Tries.{firstFrom, firstOf}
-use Rattle.record.specs.Body.{dayAt, judgedAt, valuesOf}
+use Rattle.lists.specs.Lists.{valuesOf}
+use Rattle.record.specs.Body.{dayAt, judgedAt}
 use Rattle.segment.specs.Date.{dateIn}
 use Rattle.engine.specs.Total.{some}
 use Rattle.engine.specs.Solve.{solveReply}

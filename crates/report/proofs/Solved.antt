@@ -19,7 +19,7 @@ use Rattle.record.specs.Cost.{costOf}
 use Rattle.engine.specs.Solve.{solveReply, costsLeft, startsLeft}
 use Rattle.engine.specs.Accepted.{Accepted}
 use Rattle.engine.proofs.Promises.{solve-accepted}
-use Rattle.report.specs.Limits.{costRoom, startRoom, headLength, lineLength, linesLength}
+use Rattle.report.specs.Limits.{costRoom, startRoom, lineLength, linesLength}
 use Rattle.report.specs.Lines.{headText, lineText, chosenLine, cutLines, termReply, linesOf}
 use Rattle.report.specs.Tables.{tableLines}
 use Rattle.report.proofs.Lengths.{head-length, line-length}

@@ -2,7 +2,6 @@
 use Prim.Native.Nat.{ℕ, zero, suc}
 use mathlib.Core.List.{List, [], _∷_, _++_}
 use Rattle.reply.specs.Reply.{ifDone}
-use Rattle.file.specs.Contents.{countIn}
 use Rattle.file.specs.Tries.{readReply}
 use Rattle.file.specs.Items.{Item, itemsOf, itemAt}
 use Rattle.report.specs.Lines.{fileText, itemText}

@@ -1,7 +1,6 @@
 -- `cuts::print_terms` meets its contract: each i is an entry of the accepted file. Assumes nothing.
 use Prim.Native.Nat.{_-_, _≤_}
 use native.Mathlib.Omega.{arith}
-use denote.Ref.{now}
 use borrow.Author.Needs.{needs}
 use Rattle.cuts.proofs.print_terms.Statement.{statement}
 use Rattle.cuts.proofs.print_terms.Tie as tie

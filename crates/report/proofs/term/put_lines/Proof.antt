@@ -1,19 +1,18 @@
 -- `report::term::put_lines` meets its contract. The loop's invariant: the lines for the counts 1 to k are put behind the first. Assumes nothing.
-use Prim.Native.Nat.{ℕ, _+_, _-_, _*_, _≤_}
+use Prim.Native.Nat.{_+_, _-_, _*_, _≤_}
 use mathlib.Core.Path.{_≡_, sym, ap, ap₂, _∙_}
-use mathlib.Core.List.{List, _++_}
+use mathlib.Core.List.{_++_}
 use native.Mathlib.Omega.{arith}
 use lib.ListN.{length}
 use denote.Ref.{now}
 use borrow.Author.Needs.{needs}
-use Rattle.cutting.specs.Limits.{mostSegments}
 use Rattle.engine.specs.Accepted.{Accepted}
 use Rattle.engine.proofs.Accepted.{costs-space}
 use Rattle.text.specs.Text.{Put}
 use Rattle.text.proofs.Pieces.{put-nothing, then, retell, put-length}
 use Rattle.report.specs.declared.line.Line.{Line}
 use Rattle.report.specs.Limits.{lineLength}
-use Rattle.report.specs.Lines.{headText, lineText}
+use Rattle.report.specs.Lines.{headText}
 use Rattle.report.specs.Tables.{tableLines}
 use Rattle.report.proofs.Lengths.{head-length}
 use Rattle.report.proofs.Tables.{answer-length, lines-none, lines-more}
