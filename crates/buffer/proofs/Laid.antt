@@ -3,7 +3,7 @@ use Prim.Native.Nat.{ℕ, suc, _+_, _-_, _≤_}
 use mathlib.Core.Path.{_≡_, refl, sym, ap, _∙_}
 use mathlib.Core.List.{List, [], _∷_, _++_, append-assoc, append-nil}
 use native.Mathlib.Omega.{arith}
-use lib.ListN.{length, take, drop, set, length-append, length-take, length-drop}
+use lib.ListN.{length, take, drop, set, length-take, length-drop}
 use lib.Seq.{length-sets, sets-eq, take-all, take-length, drop-length, drop-drop, take-at, drop-at}
 use borrow.Rule.Slice.PartMut.{midOf, postOf, putMid, post-is}
 use Rattle.table.specs.Num.{put, le}
@@ -47,7 +47,9 @@ module _ (o : List ℕ) (n : ℕ) (s : List ℕ) (fits : n + length s ≤ length
   after-laid = sym (drop-drop (length s) n (laid o n s)) ∙ ap (drop (length s)) from-laid ∙ drop-at s _ (length s) refl
 
 -- What comes back from a copy of s into the part of o from n on.
-pub copied : (o s p : List ℕ) (n : ℕ) → n + length s ≤ length o → p ≡ take (length s) s ++ drop (length s) (midOf n (length o - n) o) → putMid n (length o - n) o p ≡ laid o n s
+pub copied :
+    (o s p : List ℕ) (n : ℕ) → n + length s ≤ length o → p ≡ take (length s) s ++ drop (length s) (midOf n (length o - n) o) →
+    putMid n (length o - n) o p ≡ laid o n s
 copied o s p n h e =
     let mid : midOf n (length o - n) o ≡ drop n o = take-all (length o - n) (drop n o) (simp length-drop (omega arith)) in
     let post : postOf n (length o - n) o ≡ [] = post-is n (length o) o (omega arith) ∙ drop-length o in

@@ -1,5 +1,5 @@
 -- What the functions that judge entries answer. Assumes nothing.
-use Prim.Native.Nat.{ℕ, suc, _+_, _*_, _-_, _≤_, _<_}
+use Prim.Native.Nat.{ℕ, _+_, _*_, _-_, _≤_, _<_}
 use mathlib.Core.Path.{_≡_, refl, sym, ap, _∙_}
 use mathlib.Core.Bool.{Bool, false}
 use mathlib.Core.List.{List}
@@ -10,7 +10,7 @@ use lib.ListN.{length}
 use Rattle.reply.specs.declared.Reply.{Reply}
 use Rattle.reply.specs.Reply.{refusal, done}
 use Rattle.reply.specs.Facts.{test}
-use Rattle.reply.specs.Tries.{firstOf, Clear, Coded}
+use Rattle.reply.specs.Tries.{firstOf, Coded}
 use Rattle.reply.proofs.Facts.{test-fails}
 use Rattle.reply.proofs.Exactly.{passed}
 use Rattle.reply.proofs.Answers.{Left, each-stop, each-on, each-end, stop, go-on, last-holds, last-fails}
@@ -75,7 +75,9 @@ module _ (c : Contents) (s : List ℕ) where
           within = W .in-limit;
         }
 
-    module _ (h : i < c .count) (e : Entry) (offset : ℕ) (r : Reply) (he : e ≡ entryIn c s i) (ho : offset ≡ offsetAt (c .widths) s (placeIn c i) (due .at)) (hr : r ≡ firstOf (entryTries e offset due (c .limit) i)) where
+    module _
+        (h : i < c .count) (e : Entry) (offset : ℕ) (r : Reply) (he : e ≡ entryIn c s i)
+        (ho : offset ≡ offsetAt (c .widths) s (placeIn c i) (due .at)) (hr : r ≡ firstOf (entryTries e offset due (c .limit) i)) where
       offset-is : offset ≡ offsetIn c s i
       offset-is = ho ∙ ap (λ (d : Due). offsetAt (c .widths) s (placeIn c i) (d .at)) (W .due-is)
 

@@ -43,7 +43,7 @@ pub record Sound (xs : List Item) : Type 0 where
   pub short : fileLength xs ≤ mostBytes
 
 -- ENTRIES, of a file and lent alike: term numbers rise, kinds are known, each body begins where the one before ends, and the last ends at the limit.
-pub record Fit (c : Contents) (s : List ℕ) : Type 0 where
+pub record Regular (c : Contents) (s : List ℕ) : Type 0 where
   pub rising : (i : ℕ) → i + 1 < c .count → entryIn c s i .term < entryIn c s (i + 1) .term
   pub known : (i : ℕ) → i < c .count → Known (entryIn c s i)
   pub placed : (i : ℕ) → i < c .count → offsetIn c s i ≡ dueIn c s i .at
@@ -56,13 +56,13 @@ pub record Accepted (f : List ℕ) : Type 0 where
   pub some : 1 ≤ countIn f
   pub few : countIn f ≤ mostRecords
   pub listed : bodiesAt (countIn f) ≤ length f
-  pub fit : Fit (filed f) f
+  pub fit : Regular (filed f) f
 
 -- WHAT IS LENT, where it is accepted: whole entries, 1 to 64, that fit, and a file that is not too long and for which there is room.
 pub record Taken (es bs : List ℕ) (room : ℕ) : Type 0 where
   pub whole : length es % lentBytes ≡ 0
   pub some : 1 ≤ countLent es
   pub few : countLent es ≤ mostRecords
-  pub fit : Fit (lent es (length bs)) es
+  pub fit : Regular (lent es (length bs)) es
   pub short : lentLength es bs ≤ mostBytes
   pub roomy : lentLength es bs ≤ room

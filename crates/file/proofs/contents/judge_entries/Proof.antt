@@ -1,4 +1,4 @@
--- `file::contents::judge_entries` meets its contract. Assumes nothing.
+-- `file::contents::judge_entries` meets its contract. The loop's invariant: what is left to try gives the reply. Assumes nothing.
 use Rattle.file.proofs.Judging.{Walking, walking-begun, walking-done, walking-stop, walking-room, walking-more}
 use borrow.Author.Needs.{needs}
 use native.Mathlib.Omega.{arith}

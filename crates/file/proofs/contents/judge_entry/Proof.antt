@@ -26,7 +26,7 @@ refused-requires-3 c κs = search needs
 returns-3 : tie.Need-returns-3
 returns-3 c =
     let a = c .before .before .before .before .before .before .before .before .args in
-    let off : a .offset ≡ a .due .at → ⊥ = c .before .if3 .taken in
+    let off : a .offset ≡ a .due .at → ⊥ = λ e. omega (arith, c .before .if3 .taken) in
     search (by-code, answers)
 
 sub-if4 : tie.Need-sub-if4

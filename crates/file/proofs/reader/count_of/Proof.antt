@@ -1,5 +1,5 @@
 -- `file::reader::count_of` meets its contract. Assumes nothing.
-use mathlib.Core.Path.{ap, _∙_}
+use mathlib.Core.Path.{ap}
 use Rattle.file.specs.declared.contents.Contents.{Contents}
 use Rattle.file.proofs.Accepted.{read-iff}
 use native.Mathlib.Omega.{arith}

@@ -1,4 +1,4 @@
--- `file::writer::put_contents` meets its contract. Assumes nothing.
+-- `file::writer::put_contents` meets its contract. The loop's invariant: what is still to be laid gives what is to be. Assumes nothing.
 use Rattle.file.proofs.Writing.{Putting, putting-begun, putting-done, putting-room, putting-more}
 use borrow.Author.Needs.{needs}
 use Prim.Native.Nat.{_-_}
