@@ -41,6 +41,7 @@ refused-requires-4 c κs = search needs
 returns-4 : tie.Need-returns-4
 returns-4 c =
     let a = c .before .before .before .before .before .before .before .before .before .before .before .args in
+    let same : a .offset ≡ a .due .at = omega (arith, c .before .before .before .before .if3 .left) in
     let past : a .limit < a .due .at + sizeOf (a .e) = omega arith in
     search (by-code, answers) depth 8
 
@@ -50,6 +51,7 @@ finished-requires c κs = search needs
 returns-5 : tie.Need-returns-5
 returns-5 c =
     let a = c .before .before .before .before .before .before .before .before .before .before .before .args in
+    let same : a .offset ≡ a .due .at = omega (arith, c .before .before .before .before .if3 .left) in
     let within : a .due .at + sizeOf (a .e) ≤ a .limit = omega arith in
     search (by-code, answers) depth 8
 

@@ -29,6 +29,7 @@ returns-2 : tie.Need-returns-2
 returns-2 c =
     let a = c .before .before .before .args in
     let short : a .start + a .run ≤ mostBytes = omega arith in
+    let over : a .room < a .start + a .run = omega arith in
     search (by-code, answers)
 
 finished-requires : tie.Need-finished-requires
