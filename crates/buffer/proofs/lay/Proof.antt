@@ -2,8 +2,8 @@
 use Prim.Native.Nat.{_+_, _≤_}
 use native.Mathlib.Omega.{arith}
 use lib.ListN.{length}
-use Rattle.buffer.proofs.Laid.{copied}
 use borrow.Author.Needs.{needs}
+use Rattle.buffer.proofs.Laid.{copied}
 use Rattle.buffer.proofs.lay.Statement.{statement}
 use Rattle.buffer.proofs.lay.Tie as tie
 

@@ -1,9 +1,9 @@
 -- `file::contents::entry_in` meets its contract. Assumes nothing.
-use Rattle.file.proofs.Judging.{place-is, place-room}
-use native.Mathlib.Omega.{arith}
 use mathlib.Core.Path.{ap, _∙_}
-use Rattle.file.specs.Layout.{entryAt}
+use native.Mathlib.Omega.{arith}
 use borrow.Author.Needs.{needs}
+use Rattle.file.specs.Layout.{entryAt}
+use Rattle.file.proofs.Judging.{place-is, place-room}
 use Rattle.file.proofs.contents.entry_in.Statement.{statement}
 use Rattle.file.proofs.contents.entry_in.Tie as tie
 

@@ -1,8 +1,8 @@
 -- `file::contents::judge` meets its contract. Assumes nothing.
 use Prim.Native.Nat.{_≤_, _<_}
 use native.Mathlib.Omega.{arith}
-use Rattle.file.proofs.Judging.{judge-stop, judge-left, judge-done}
 use borrow.Author.Needs.{needs}
+use Rattle.file.proofs.Judging.{judge-stop, judge-left, judge-done}
 use Rattle.file.proofs.contents.judge.Statement.{statement}
 use Rattle.file.proofs.contents.judge.Tie as tie
 

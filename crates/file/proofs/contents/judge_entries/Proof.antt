@@ -1,8 +1,8 @@
 -- `file::contents::judge_entries` meets its contract. The loop's invariant: what is left to try gives the reply. Assumes nothing.
-use Rattle.file.proofs.Judging.{Walking, walking-begun, walking-done, walking-stop, walking-room, walking-more}
-use borrow.Author.Needs.{needs}
-use native.Mathlib.Omega.{arith}
 use Prim.Native.Nat.{_-_}
+use native.Mathlib.Omega.{arith}
+use borrow.Author.Needs.{needs}
+use Rattle.file.proofs.Judging.{Walking, walking-begun, walking-done, walking-stop, walking-room, walking-more}
 use Rattle.file.proofs.contents.judge_entries.Statement.{statement}
 use Rattle.file.proofs.contents.judge_entries.Tie as tie
 

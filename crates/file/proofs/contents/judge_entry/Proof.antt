@@ -1,10 +1,10 @@
 -- `file::contents::judge_entry` meets its contract. Assumes nothing.
-use Rattle.reply.proofs.Answers.{answers, by-code}
-use native.Mathlib.Omega.{arith}
 use Prim.Native.Nat.{_+_, _≤_, _<_}
 use mathlib.Core.Path.{_≡_}
-use Rattle.file.specs.Layout.{sizeOf}
+use native.Mathlib.Omega.{arith}
 use borrow.Author.Needs.{needs}
+use Rattle.reply.proofs.Answers.{answers, by-code}
+use Rattle.file.specs.Layout.{sizeOf}
 use Rattle.file.proofs.contents.judge_entry.Statement.{statement}
 use Rattle.file.proofs.contents.judge_entry.Tie as tie
 

@@ -1,9 +1,9 @@
 -- `file::contents::offset_in` meets its contract. Assumes nothing.
-use Rattle.file.proofs.Judging.{place-is, place-room}
-use native.Mathlib.Omega.{arith}
 use mathlib.Core.Path.{ap, _∙_}
-use Rattle.file.specs.Layout.{offsetAt}
+use native.Mathlib.Omega.{arith}
 use borrow.Author.Needs.{needs}
+use Rattle.file.specs.Layout.{offsetAt}
+use Rattle.file.proofs.Judging.{place-is, place-room}
 use Rattle.file.proofs.contents.offset_in.Statement.{statement}
 use Rattle.file.proofs.contents.offset_in.Tie as tie
 

@@ -1,8 +1,8 @@
 -- `file::reader::record_of` meets its contract. Assumes nothing.
-use Rattle.file.proofs.Round.{found-listed, found}
-use Rattle.file.proofs.Accepted.{read-iff}
 use native.Mathlib.Omega.{arith}
 use borrow.Author.Needs.{needs}
+use Rattle.file.proofs.Round.{found-listed, found}
+use Rattle.file.proofs.Accepted.{read-iff}
 use Rattle.file.proofs.reader.record_of.Statement.{statement}
 use Rattle.file.proofs.reader.record_of.Tie as tie
 

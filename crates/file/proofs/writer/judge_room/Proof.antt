@@ -1,9 +1,9 @@
 -- `file::writer::judge_room` meets its contract. Assumes nothing.
-use Rattle.reply.proofs.Answers.{answers, by-code}
-use native.Mathlib.Omega.{arith}
 use Prim.Native.Nat.{_+_, _≤_, _<_}
-use Rattle.file.specs.Limits.{mostBytes}
+use native.Mathlib.Omega.{arith}
 use borrow.Author.Needs.{needs}
+use Rattle.reply.proofs.Answers.{answers, by-code}
+use Rattle.file.specs.Limits.{mostBytes}
 use Rattle.file.proofs.writer.judge_room.Statement.{statement}
 use Rattle.file.proofs.writer.judge_room.Tie as tie
 

@@ -1,10 +1,10 @@
 -- `file::writer::judge_write` meets its contract. Assumes nothing.
-use Rattle.reply.proofs.Answers.{answers, by-code}
 use native.Mathlib.Omega.{arith}
-use Rattle.file.proofs.Replies.{write-listed, write-bad, write-stop, write-room}
-use Rattle.file.specs.Tries.{writeTries}
-use Rattle.file.proofs.Judging.{few}
 use borrow.Author.Needs.{needs}
+use Rattle.reply.proofs.Answers.{answers, by-code}
+use Rattle.file.specs.Tries.{writeTries}
+use Rattle.file.proofs.Replies.{write-listed, write-bad, write-stop, write-room}
+use Rattle.file.proofs.Judging.{few}
 use Rattle.file.proofs.writer.judge_write.Statement.{statement}
 use Rattle.file.proofs.writer.judge_write.Tie as tie
 
