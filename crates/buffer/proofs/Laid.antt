@@ -47,7 +47,9 @@ module _ (o : List ℕ) (n : ℕ) (s : List ℕ) (fits : n + length s ≤ length
   after-laid = sym (drop-drop (length s) n (laid o n s)) ∙ ap (drop (length s)) from-laid ∙ drop-at s _ (length s) refl
 
 -- What comes back from a copy of s into the part of o from n on.
-pub copied : (o s p : List ℕ) (n : ℕ) → n + length s ≤ length o → p ≡ take (length s) s ++ drop (length s) (midOf n (length o - n) o) → putMid n (length o - n) o p ≡ laid o n s
+pub copied :
+    (o s p : List ℕ) (n : ℕ) → n + length s ≤ length o → p ≡ take (length s) s ++ drop (length s) (midOf n (length o - n) o) →
+    putMid n (length o - n) o p ≡ laid o n s
 copied o s p n h e =
     let mid : midOf n (length o - n) o ≡ drop n o = take-all (length o - n) (drop n o) (simp length-drop (omega arith)) in
     let post : postOf n (length o - n) o ≡ [] = post-is n (length o) o (omega arith) ∙ drop-length o in

@@ -29,7 +29,9 @@ field-some zero d s p h e = absurd (h refl)
 field-some (suc k) d s p h e = e
 
 pub offset-some : (w : Widths) (s : List ℕ) (p due : ℕ) {v : ℕ} → (w .offset ≡ 0 → ⊥) → v ≡ num (w .offset) s (p + widthOf asLent) → v ≡ offsetAt w s p due
-offset-some w s p due h e = let place : p + widthOf asLent ≡ toOffset p = omega arith in field-some (w .offset) due s (toOffset p) h (e ∙ ap (num (w .offset) s) place)
+offset-some w s p due h e =
+    let place : p + widthOf asLent ≡ toOffset p = omega arith in
+    field-some (w .offset) due s (toOffset p) h (e ∙ ap (num (w .offset) s) place)
 
 -- v may stand in a field of k bytes, or is what a field that is not there is taken for
 abbrev pub Holds : (k d v : ℕ) → Type 0
@@ -61,7 +63,10 @@ field-back zero d s p B h = refl
 field-back (suc k) d s p B h = le-num s B (suc k) p h
 
 -- ---- an entry is made of its fields
-pub entry-is : (s : List ℕ) (p : ℕ) {t k x d n : ℕ} → t ≡ num termBytes s p → k ≡ num kernelBytes s (toKernel p) → x ≡ num kindBytes s (toKind p) → d ≡ num dmaxBytes s (toDmax p) → n ≡ num nBytes s (toN p) → _≡_ {A = Entry} (record { term = t; asked = record { kernel = k; kind = x; dmax = d }; n = n }) (entryAt s p)
+pub entry-is :
+    (s : List ℕ) (p : ℕ) {t k x d n : ℕ} → t ≡ num termBytes s p → k ≡ num kernelBytes s (toKernel p) → x ≡ num kindBytes s (toKind p) →
+    d ≡ num dmaxBytes s (toDmax p) → n ≡ num nBytes s (toN p) →
+    _≡_ {A = Entry} (record { term = t; asked = record { kernel = k; kind = x; dmax = d }; n = n }) (entryAt s p)
 unfolding entryAt
 entry-is s p t k x d n = λ i. record { term = t i; asked = record { kernel = k i; kind = x i; dmax = d i }; n = n i }
 
@@ -71,47 +76,65 @@ length-encode w e at = simp (length-append, length-le) (omega arith)
 
 -- ---- an entry written is read back ..
 module _ (w : Widths) (e : Entry) (at : ℕ) (s b : List ℕ) (p : ℕ) (h : drop p s ≡ encode w e at ++ b) where
-  parts : drop p s ≡ le termBytes (e .term) ++ (le kernelBytes (e .asked .kernel) ++ (le kindBytes (e .asked .kind) ++ (le dmaxBytes (e .asked .dmax) ++ (le nBytes (e .n) ++ (le (w .offset) at ++ b)))))
+  -- what stands from each field on
+  abbrev from-offset : List ℕ
+  from-offset = le (w .offset) at ++ b
+
+  abbrev from-n : List ℕ
+  from-n = le nBytes (e .n) ++ from-offset
+
+  abbrev from-dmax : List ℕ
+  from-dmax = le dmaxBytes (e .asked .dmax) ++ from-n
+
+  abbrev from-kind : List ℕ
+  from-kind = le kindBytes (e .asked .kind) ++ from-dmax
+
+  abbrev from-kernel : List ℕ
+  from-kernel = le kernelBytes (e .asked .kernel) ++ from-kind
+
+  at-term : drop p s ≡ le termBytes (e .term) ++ from-kernel
   unfolding encode
-  parts = h ∙ simp append-assoc
+  at-term = h ∙ simp append-assoc
 
-  past-term : drop (toKernel p) s ≡ le kernelBytes (e .asked .kernel) ++ (le kindBytes (e .asked .kind) ++ (le dmaxBytes (e .asked .dmax) ++ (le nBytes (e .n) ++ (le (w .offset) at ++ b))))
-  past-term = drop-here termBytes (e .term) s _ p parts
+  at-kernel : drop (toKernel p) s ≡ from-kernel
+  at-kernel = drop-here termBytes (e .term) s from-kernel p at-term
 
-  past-kernel : drop (toKind p) s ≡ le kindBytes (e .asked .kind) ++ (le dmaxBytes (e .asked .dmax) ++ (le nBytes (e .n) ++ (le (w .offset) at ++ b)))
-  past-kernel = drop-here kernelBytes (e .asked .kernel) s _ (toKernel p) past-term
+  at-kind : drop (toKind p) s ≡ from-kind
+  at-kind = drop-here kernelBytes (e .asked .kernel) s from-kind (toKernel p) at-kernel
 
-  past-kind : drop (toDmax p) s ≡ le dmaxBytes (e .asked .dmax) ++ (le nBytes (e .n) ++ (le (w .offset) at ++ b))
-  past-kind = drop-here kindBytes (e .asked .kind) s _ (toKind p) past-kernel
+  at-dmax : drop (toDmax p) s ≡ from-dmax
+  at-dmax = drop-here kindBytes (e .asked .kind) s from-dmax (toKind p) at-kind
 
-  past-dmax : drop (toN p) s ≡ le nBytes (e .n) ++ (le (w .offset) at ++ b)
-  past-dmax = drop-here dmaxBytes (e .asked .dmax) s _ (toDmax p) past-kind
+  at-n : drop (toN p) s ≡ from-n
+  at-n = drop-here dmaxBytes (e .asked .dmax) s from-n (toDmax p) at-dmax
 
-  past-n : drop (toOffset p) s ≡ le (w .offset) at ++ b
-  past-n = drop-here nBytes (e .n) s _ (toN p) past-dmax
+  at-offset : drop (toOffset p) s ≡ from-offset
+  at-offset = drop-here nBytes (e .n) s from-offset (toN p) at-n
 
   pub entry-past : drop (p + widthOf w) s ≡ b
   entry-past =
       let sum : p + widthOf w ≡ toOffset p + w .offset = omega arith in
-      ap (λ (i : ℕ). drop i s) sum ∙ drop-here (w .offset) at s b (toOffset p) past-n
+      ap (λ (i : ℕ). drop i s) sum ∙ drop-here (w .offset) at s b (toOffset p) at-offset
 
   pub entry-here : Fits e → entryAt s p ≡ e
   entry-here F =
       sym (entry-is s p
-      (sym (num-here termBytes (e .term) s _ p parts (F .term)))
-      (sym (num-here kernelBytes (e .asked .kernel) s _ (toKernel p) past-term (F .kernel)))
-      (sym (num-here kindBytes (e .asked .kind) s _ (toKind p) past-kernel (F .kind)))
-      (sym (num-here dmaxBytes (e .asked .dmax) s _ (toDmax p) past-kind (F .dmax)))
-      (sym (num-here nBytes (e .n) s _ (toN p) past-dmax (F .n))))
+      (sym (num-here termBytes (e .term) s from-kernel p at-term (F .term)))
+      (sym (num-here kernelBytes (e .asked .kernel) s from-kind (toKernel p) at-kernel (F .kernel)))
+      (sym (num-here kindBytes (e .asked .kind) s from-dmax (toKind p) at-kind (F .kind)))
+      (sym (num-here dmaxBytes (e .asked .dmax) s from-n (toDmax p) at-dmax (F .dmax)))
+      (sym (num-here nBytes (e .n) s from-offset (toN p) at-n (F .n))))
 
   pub offset-here : (due : ℕ) → Holds (w .offset) due at → offsetAt w s p due ≡ at
-  offset-here due = field-here (w .offset) due at s b (toOffset p) past-n
+  offset-here due = field-here (w .offset) due at s b (toOffset p) at-offset
 
 -- ---- .. and an entry read has the bytes that were read
 pub join : (s : List ℕ) (k m p : ℕ) → take k (drop p s) ++ take m (drop (p + k) s) ≡ take (k + m) (drop p s)
 join s k m p = ap (λ (t : List ℕ). take k (drop p s) ++ take m t) (sym (drop-drop k p s)) ∙ sym (take-add k m (drop p s))
 
-pub encode-back : (w : Widths) (s : List ℕ) → Bytes s → (p : ℕ) → p + widthOf w ≤ length s → (due : ℕ) → encode w (entryAt s p) (offsetAt w s p due) ≡ take (widthOf w) (drop p s)
+pub encode-back :
+    (w : Widths) (s : List ℕ) → Bytes s → (p : ℕ) → p + widthOf w ≤ length s → (due : ℕ) →
+    encode w (entryAt s p) (offsetAt w s p due) ≡ take (widthOf w) (drop p s)
 unfolding encode entryAt
 encode-back w s B p l due =
     let sum : termBytes + (kernelBytes + (kindBytes + (dmaxBytes + (nBytes + w .offset)))) ≡ widthOf w = omega arith in
@@ -133,13 +156,19 @@ entry-fits s B p = record {
 }
 
 -- ---- an entry stored, field by field, is its bytes laid
-store-next : (o p q : List ℕ) (n m k v : ℕ) (s : List ℕ) → p ≡ laid o n s → n + length s ≡ m → q ≡ put k p m v → (q ≡ laid o n (s ++ le k v)) × (n + length (s ++ le k v) ≡ m + k)
+store-next :
+    (o p q : List ℕ) (n m k v : ℕ) (s : List ℕ) → p ≡ laid o n s → n + length s ≡ m → q ≡ put k p m v →
+    (q ≡ laid o n (s ++ le k v)) × (n + length (s ++ le k v) ≡ m + k)
 store-next o p q n m k v s hp hm hq = (
   hq ∙ put-laid k p m v ∙ ap (λ (l : List ℕ). laid l m (le k v)) hp ∙ laid-next o n m s (le k v) hm,
   simp (length-append, length-le) (omega arith),
 )
 
-pub entry-put : (o : List ℕ) (p : ℕ) (w : Widths) (e : Entry) (at : ℕ) (a b c d f g : List ℕ) → a ≡ put termBytes o p (e .term) → b ≡ put kernelBytes a (toKernel p) (e .asked .kernel) → c ≡ put kindBytes b (toKind p) (e .asked .kind) → d ≡ put dmaxBytes c (toDmax p) (e .asked .dmax) → f ≡ put nBytes d (toN p) (e .n) → g ≡ put (w .offset) f (toOffset p) at → g ≡ laid o p (encode w e at)
+pub entry-put :
+    (o : List ℕ) (p : ℕ) (w : Widths) (e : Entry) (at : ℕ) (a b c d f g : List ℕ) → a ≡ put termBytes o p (e .term) →
+    b ≡ put kernelBytes a (toKernel p) (e .asked .kernel) → c ≡ put kindBytes b (toKind p) (e .asked .kind) →
+    d ≡ put dmaxBytes c (toDmax p) (e .asked .dmax) → f ≡ put nBytes d (toN p) (e .n) → g ≡ put (w .offset) f (toOffset p) at →
+    g ≡ laid o p (encode w e at)
 unfolding encode
 entry-put o p w e at a b c d f g ha hb hc hd hf hg =
     let term : List ℕ = le termBytes (e .term) in

@@ -132,25 +132,28 @@ module _ (c : Contents) (s : List ℕ) where
   due-total (suc k) i = let next : i + suc k ≡ suc i + k = omega arith in ap (λ (j : ℕ). dueIn c s j .at) next ∙ omega (arith, due-total k (suc i))
 
   -- so item j is entry j, with its body where that is due
-  abbrev pub ItemIs : (bs : List ℕ) (j : ℕ) → Item → Type 0
-  ItemIs bs j x = x ≡ record { entry = entryIn c s j; body = take (sizeOf (entryIn c s j)) (drop (dueIn c s j .at) bs) }
+  abbrev pub itemIn : (bs : List ℕ) (j : ℕ) → Item
+  itemIn bs j = record { entry = entryIn c s j; body = take (sizeOf (entryIn c s j)) (drop (dueIn c s j .at) bs) }
 
-  pub item-from : (bs : List ℕ) (k i j : ℕ) → j < k → ItemIs bs (i + j) (getD (paired (entriesFrom c s k i) (drop (dueIn c s i .at) bs)) j noItem)
+  pub item-from : (bs : List ℕ) (k i j : ℕ) → j < k → getD (paired (entriesFrom c s k i) (drop (dueIn c s i .at) bs)) j noItem ≡ itemIn bs (i + j)
   unfolding paired entriesFrom dueIn
   item-from bs zero i j h = absurd (omega arith)
-  item-from bs (suc k) i zero h = let none : i ≡ i + 0 = omega arith in subst (λ (n : ℕ). ItemIs bs n (record { entry = entryIn c s i; body = take (sizeOf (entryIn c s i)) (drop (dueIn c s i .at) bs) })) none refl
+  item-from bs (suc k) i zero h =
+      let none : i ≡ i + 0 = omega arith in
+      subst (λ (n : ℕ). itemIn bs i ≡ itemIn bs n) none refl
   item-from bs (suc k) i (suc j) h =
       let next : suc i + j ≡ i + suc j = omega arith in
-      let there : drop (sizeOf (entryIn c s i)) (drop (dueIn c s i .at) bs) ≡ drop (dueIn c s (suc i) .at) bs = drop-drop (sizeOf (entryIn c s i)) (dueIn c s i .at) bs in
-      ap (λ (run : List ℕ). getD (paired (entriesFrom c s k (suc i)) run) j noItem) there
-      ∙ subst (λ (n : ℕ). ItemIs bs n (getD (paired (entriesFrom c s k (suc i)) (drop (dueIn c s (suc i) .at) bs)) j noItem)) next (item-from bs k (suc i) j (omega arith))
+      ap (λ (run : List ℕ). getD (paired (entriesFrom c s k (suc i)) run) j noItem) (drop-drop (sizeOf (entryIn c s i)) (dueIn c s i .at) bs)
+      ∙ item-from bs k (suc i) j (omega arith) ∙ ap (itemIn bs) next
 
   -- ---- an entry begins where the one before ends
   place-next : (i : ℕ) → placeIn c i + widthOf (c .widths) ≡ placeIn c (suc i)
   place-next i = omega arith
 
   -- entries read with right offsets have the bytes that were read
-  pub contents-kept : Bytes s → (k i : ℕ) → placeIn c (i + k) ≤ length s → ((j : ℕ) → i ≤ j → j < i + k → offsetIn c s j ≡ dueIn c s j .at) → contents (c .widths) (dueIn c s i .at) (entriesFrom c s k i) ≡ take (widthOf (c .widths) * k) (drop (placeIn c i) s)
+  pub contents-kept :
+      Bytes s → (k i : ℕ) → placeIn c (i + k) ≤ length s → ((j : ℕ) → i ≤ j → j < i + k → offsetIn c s j ≡ dueIn c s j .at) →
+      contents (c .widths) (dueIn c s i .at) (entriesFrom c s k i) ≡ take (widthOf (c .widths) * k) (drop (placeIn c i) s)
   unfolding contents entriesFrom dueIn
   contents-kept B zero i room h = let none : 0 ≡ widthOf (c .widths) * 0 = omega arith in ap (λ (n : ℕ). take n (drop (placeIn c i) s)) none
   contents-kept B (suc k) i room h =
@@ -168,12 +171,15 @@ module _ (c : Contents) (s : List ℕ) where
     pub entries : entriesFrom c s (length es) i ≡ es
     pub placed : (j : ℕ) → i ≤ j → j < i + length es → offsetIn c s j ≡ dueIn c s j .at
 
-  pub back : ((at : ℕ) → at ≤ c .limit → Holds (c .widths .offset) at at) → (es : List Entry) (i : ℕ) (b : List ℕ) → drop (placeIn c i) s ≡ contents (c .widths) (dueIn c s i .at) es ++ b → All Fits es → dueIn c s i .at + total es ≤ c .limit → Back es i
+  pub back :
+      ((at : ℕ) → at ≤ c .limit → Holds (c .widths .offset) at at) → (es : List Entry) (i : ℕ) (b : List ℕ) →
+      drop (placeIn c i) s ≡ contents (c .widths) (dueIn c s i .at) es ++ b → All Fits es → dueIn c s i .at + total es ≤ c .limit → Back es i
   unfolding contents entriesFrom dueIn total
   back O [] i b h F l = record { entries = refl; placed = λ j x y. absurd (omega arith) }
   back O (e ∷ es) i b h F l =
       let at : ℕ = dueIn c s i .at in
-      let first : drop (placeIn c i) s ≡ encode (c .widths) e at ++ (contents (c .widths) (at + sizeOf e) es ++ b) = h ∙ append-assoc (encode (c .widths) e at) _ b in
+      let first : drop (placeIn c i) s ≡ encode (c .widths) e at ++ (contents (c .widths) (at + sizeOf e) es ++ b) =
+      h ∙ append-assoc (encode (c .widths) e at) _ b in
       let entry : entryIn c s i ≡ e = entry-here (c .widths) e at s _ (placeIn c i) first (F .0) in
       let at-is : at + sizeOf e ≡ dueIn c s (suc i) .at = ap (λ (x : Entry). at + sizeOf x) (sym entry) in
       let next : drop (placeIn c (suc i)) s ≡ contents (c .widths) (dueIn c s (suc i) .at) es ++ b =

@@ -1,5 +1,5 @@
 -- What the functions that judge entries answer. Assumes nothing.
-use Prim.Native.Nat.{ℕ, _+_, _*_, _-_, _≤_, _<_}
+use Prim.Native.Nat.{ℕ, _+_, _*_, _≤_, _<_}
 use mathlib.Core.Path.{_≡_, refl, sym, ap, _∙_}
 use mathlib.Core.Bool.{Bool, false}
 use mathlib.Core.List.{List}
@@ -42,8 +42,8 @@ module _ (c : Contents) (s : List ℕ) where
   pub place-is : (step i : ℕ) → step ≡ widthOf (c .widths) → c .from + step * i ≡ placeIn c i
   place-is step i e = ap (λ (x : ℕ). c .from + x * i) e
 
-  pub place-room : Listed c s → (i : ℕ) → i < c .count → placeIn c i + widthOf (c .widths) ≤ length s
-  place-room L i h = omega (arith, L .room, mul-le-mul-left (widthOf (c .widths)) h)
+  pub place-room : Listed c s → (i : ℕ) → i < c .count → (step : ℕ) → step ≡ widthOf (c .widths) → c .from + step * i + widthOf (c .widths) ≤ length s
+  place-room L i h step e = omega (arith, L .room, mul-le-mul-left (widthOf (c .widths)) h, place-is step i e)
 
   -- what is due of the first entry, and of the next
   pub due-first : dueIn c s 0 ≡ record { floor = 0; at = c .start }
@@ -75,7 +75,9 @@ module _ (c : Contents) (s : List ℕ) where
           within = W .in-limit;
         }
 
-    module _ (h : i < c .count) (e : Entry) (offset : ℕ) (r : Reply) (he : e ≡ entryIn c s i) (ho : offset ≡ offsetAt (c .widths) s (placeIn c i) (due .at)) (hr : r ≡ firstOf (entryTries e offset due (c .limit) i)) where
+    module _
+        (h : i < c .count) (e : Entry) (offset : ℕ) (r : Reply) (he : e ≡ entryIn c s i)
+        (ho : offset ≡ offsetAt (c .widths) s (placeIn c i) (due .at)) (hr : r ≡ firstOf (entryTries e offset due (c .limit) i)) where
       offset-is : offset ≡ offsetIn c s i
       offset-is = ho ∙ ap (λ (d : Due). offsetAt (c .widths) s (placeIn c i) (d .at)) (W .due-is)
 
@@ -93,12 +95,12 @@ module _ (c : Contents) (s : List ℕ) where
         pub walking-room : due .at + sizeOf e ≤ c .limit
         walking-room = passed (entryTries e offset due (c .limit) i) (coded-entry e offset due (c .limit) i) r hr z .1 .1 .1
 
-        pub walking-more : (size : ℕ) → size ≡ sizeOf e → Walking (i + 1) (record { floor = e .term + 1; at = due .at + size })
-        walking-more size hs = record {
+        pub walking-more : (floor size : ℕ) → floor ≡ e .term + 1 → size ≡ sizeOf e → Walking (i + 1) (record { floor = floor; at = due .at + size })
+        walking-more floor size hf hs = record {
           given = W .given;
           before = omega arith;
           due-is =
-              (λ j. record { floor = he j .term + 1; at = W .due-is j .at + (hs ∙ ap sizeOf he) j })
+              (λ j. record { floor = (hf ∙ ap (λ (x : Entry). x .term + 1) he) j; at = W .due-is j .at + (hs ∙ ap sizeOf he) j })
               ∙ sym (due-next i);
           left = each-on (triesIn c s) 0 (c .count) i (W .left) h r reply-is z;
           in-limit = omega (arith, walking-room);
@@ -110,8 +112,8 @@ module _ (c : Contents) (s : List ℕ) where
     judge-stop z = stop (contentsTries c s) (leftTry c s) (r .reply) (J .told) z
 
     module _ (z : r .reply .code ≡ 0) (q : Reply) where
-      pub judge-left : 0 < c .limit - r .end → q ≡ refusal 25 0 → q ≡ firstOf (entriesTries c s)
+      pub judge-left : r .end < c .limit → q ≡ refusal 25 0 → q ≡ firstOf (entriesTries c s)
       judge-left h e = go-on (contentsTries c s) (leftTry c s) (r .reply) q (J .told) z (e ∙ last-holds _ _ (omega (arith, J .ended z)))
 
-      pub judge-done : c .limit - r .end ≤ 0 → q ≡ done → q ≡ firstOf (entriesTries c s)
+      pub judge-done : c .limit ≤ r .end → q ≡ done → q ≡ firstOf (entriesTries c s)
       judge-done h e = go-on (contentsTries c s) (leftTry c s) (r .reply) q (J .told) z (e ∙ last-fails _ _ (omega (arith, J .ended z)))

@@ -42,27 +42,27 @@ pub record Sound (xs : List Item) : Type 0 where
   pub good : All Good xs
   pub short : fileLength xs ≤ mostBytes
 
--- ENTRIES, of a file and lent alike: term numbers rise, kinds are known, each body begins where the one before ends, and the last ends at the limit.
-pub record Fit (c : Contents) (s : List ℕ) : Type 0 where
+-- ENTRIES that are regular, of a file and lent alike: term numbers rise, kinds are known, each body begins where the one before ends, and the last ends at the limit.
+pub record Regular (c : Contents) (s : List ℕ) : Type 0 where
   pub rising : (i : ℕ) → i + 1 < c .count → entryIn c s i .term < entryIn c s (i + 1) .term
   pub known : (i : ℕ) → i < c .count → Known (entryIn c s i)
   pub placed : (i : ℕ) → i < c .count → offsetIn c s i ≡ dueIn c s i .at
   pub filled : dueIn c s (c .count) .at ≡ c .limit
 
--- A FILE that is accepted: at most 65,536 bytes, a count of 1 to 64, contents that are there, and entries that fit.
+-- A FILE that is accepted: at most 65,536 bytes, a count of 1 to 64, contents that are there, and regular entries.
 pub record Accepted (f : List ℕ) : Type 0 where
   pub short : length f ≤ mostBytes
   pub counted : countBytes ≤ length f
   pub some : 1 ≤ countIn f
   pub few : countIn f ≤ mostRecords
   pub listed : bodiesAt (countIn f) ≤ length f
-  pub fit : Fit (filed f) f
+  pub regular : Regular (filed f) f
 
--- WHAT IS LENT, where it is accepted: whole entries, 1 to 64, that fit, and a file that is not too long and for which there is room.
+-- WHAT IS LENT, where it is accepted: whole and regular entries, 1 to 64, and a file that is not too long and for which there is room.
 pub record Taken (es bs : List ℕ) (room : ℕ) : Type 0 where
   pub whole : length es % lentBytes ≡ 0
   pub some : 1 ≤ countLent es
   pub few : countLent es ≤ mostRecords
-  pub fit : Fit (lent es (length bs)) es
+  pub regular : Regular (lent es (length bs)) es
   pub short : lentLength es bs ≤ mostBytes
   pub roomy : lentLength es bs ≤ room

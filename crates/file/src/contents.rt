@@ -15,7 +15,7 @@ use crate::limits;
 use reply::Reply;
 
 // Where entries stand: `count` of them from byte `from` on. Their bodies begin at `start` and are to end by `limit`.
-pub struct Contents {
+pub(crate) struct Contents {
     pub widths: Widths,
     pub count: usize,
     pub from: usize,
@@ -24,19 +24,19 @@ pub struct Contents {
 }
 
 // What is due of an entry: a term number of `floor` or more, and a body at `at`.
-pub struct Due {
+pub(crate) struct Due {
     pub floor: u64,
     pub at: usize,
 }
 
 // The reply to entries, and where their bodies end.
-pub struct Reached {
+pub(crate) struct Reached {
     pub reply: Reply,
     pub end: usize,
 }
 
 // Where the bodies of a file of `count` records begin.
-pub fn bodies_at(count: usize) -> usize
+pub(crate) fn bodies_at(count: usize) -> usize
     requires { ⌜ count ≤ mostCount ⌝ }
     ensures { λ r. ⌜ r ≡ bodiesAt count ⌝ }
 {
@@ -44,7 +44,7 @@ pub fn bodies_at(count: usize) -> usize
     limits::COUNT_BYTES + layout::width(w) * count
 }
 
-pub fn bad_count(count: usize) -> bool
+pub(crate) fn bad_count(count: usize) -> bool
     ensures { λ r. ⌜ r ≡ test (badCount count) ⌝ }
 {
     if count == 0 {
@@ -54,7 +54,7 @@ pub fn bad_count(count: usize) -> bool
 }
 
 // Entry i.
-pub fn entry_in(s: &[u8], c: Contents, i: usize) -> Entry
+pub(crate) fn entry_in(s: &[u8], c: Contents, i: usize) -> Entry
     requires { ⌜ Listed c (now s) × (i < c .count) ⌝ }
     ensures { λ r. ⌜ (r ≡ entryIn c (now (s .entry)) i) × Fits r ⌝ }
 {
@@ -63,7 +63,7 @@ pub fn entry_in(s: &[u8], c: Contents, i: usize) -> Entry
 }
 
 // The offset of entry i, whose body is due at `due`.
-pub fn offset_in(s: &[u8], c: Contents, i: usize, due: usize) -> usize
+pub(crate) fn offset_in(s: &[u8], c: Contents, i: usize, due: usize) -> usize
     requires { ⌜ Listed c (now s) × (i < c .count) ⌝ }
     ensures { λ r. ⌜ r ≡ offsetAt (c .widths) (now (s .entry)) (placeIn c i) due ⌝ }
 {
@@ -124,7 +124,7 @@ fn judge_entries(s: &[u8], c: Contents) -> Reached
 }
 
 // All entries, then bytes left over.
-pub fn judge(s: &[u8], c: Contents) -> Reply
+pub(crate) fn judge(s: &[u8], c: Contents) -> Reply
     requires { ⌜ Listed c (now s) ⌝ }
     ensures { λ r. ⌜ r ≡ firstOf (entriesTries c (now (s .entry))) ⌝ }
 {

@@ -10,7 +10,7 @@ use crate::limits;
 use record::Asked;
 
 // A layout: the widths of the fields that not every layout has, 0 where there is no such field.
-pub struct Widths {
+pub(crate) struct Widths {
     pub offset: usize,
 }
 
@@ -22,7 +22,7 @@ pub struct Entry {
 }
 
 // The widths of a file's entries.
-pub fn in_file() -> Widths
+pub(crate) fn in_file() -> Widths
     ensures { λ r. ⌜ (r ≡ inFile) × Narrow r ⌝ }
 {
     Widths {
@@ -31,14 +31,14 @@ pub fn in_file() -> Widths
 }
 
 // The widths of lent entries.
-pub fn as_lent() -> Widths
+pub(crate) fn as_lent() -> Widths
     ensures { λ r. ⌜ (r ≡ asLent) × Narrow r ⌝ }
 {
     Widths { offset: 0 }
 }
 
 // How many bytes an entry has.
-pub fn width(w: Widths) -> usize
+pub(crate) fn width(w: Widths) -> usize
     requires { ⌜ Narrow w ⌝ }
     ensures { λ r. ⌜ r ≡ widthOf w ⌝ }
 {
@@ -46,7 +46,7 @@ pub fn width(w: Widths) -> usize
 }
 
 // The number of the k bytes from `at`.
-pub fn number(s: &[u8], at: usize, k: usize) -> u64
+pub(crate) fn number(s: &[u8], at: usize, k: usize) -> u64
     requires { ⌜ (at + k ≤ length (now s)) × (k ≤ 8) ⌝ }
     ensures { λ r. ⌜ (r ≡ num k (now (s .entry)) at) × (r < 256 ^ k) ⌝ }
 {
@@ -54,7 +54,7 @@ pub fn number(s: &[u8], at: usize, k: usize) -> u64
 }
 
 // The entry at p.
-pub fn entry_at(s: &[u8], p: usize) -> Entry
+pub(crate) fn entry_at(s: &[u8], p: usize) -> Entry
     requires { ⌜ toOffset p ≤ length (now s) ⌝ }
     ensures { λ r. ⌜ (r ≡ entryAt (now (s .entry)) p) × Fits r ⌝ }
 {
@@ -72,7 +72,7 @@ pub fn entry_at(s: &[u8], p: usize) -> Entry
 }
 
 // The offset of the entry at p; one that is not there is where the body is due.
-pub fn offset_at(s: &[u8], p: usize, w: Widths, due: usize) -> usize
+pub(crate) fn offset_at(s: &[u8], p: usize, w: Widths, due: usize) -> usize
     requires { ⌜ (p + widthOf w ≤ length (now s)) × Narrow w ⌝ }
     ensures { λ r. ⌜ r ≡ offsetAt w (now (s .entry)) p due ⌝ }
 {
@@ -83,7 +83,7 @@ pub fn offset_at(s: &[u8], p: usize, w: Widths, due: usize) -> usize
 }
 
 // How many bytes the entry's body has.
-pub fn size_of(e: Entry) -> usize
+pub(crate) fn size_of(e: Entry) -> usize
     requires { ⌜ Fits e ⌝ }
     ensures { λ r. ⌜ (r ≡ sizeOf e) × (r < sizeLimit) ⌝ }
 {
@@ -91,7 +91,7 @@ pub fn size_of(e: Entry) -> usize
 }
 
 // Writes the entry e, whose body begins at `at`, from p on.
-pub fn put_entry(out: &mut [u8], p: usize, w: Widths, e: Entry, at: usize)
+pub(crate) fn put_entry(out: &mut [u8], p: usize, w: Widths, e: Entry, at: usize)
     requires { ⌜ p + widthOf w ≤ length (now out) ⌝ }
     ensures { λ _. ⌜ now (out .exit) ≡ laid (now (out .entry)) p (encode w e at) ⌝ }
 {

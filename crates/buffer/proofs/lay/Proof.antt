@@ -1,6 +1,9 @@
 -- `buffer::lay` meets its contract. Assumes nothing.
-use Rattle.buffer.proofs.Laid.{copied}
+use Prim.Native.Nat.{_+_, _≤_}
+use native.Mathlib.Omega.{arith}
+use lib.ListN.{length}
 use borrow.Author.Needs.{needs}
+use Rattle.buffer.proofs.Laid.{copied}
 use Rattle.buffer.proofs.lay.Statement.{statement}
 use Rattle.buffer.proofs.lay.Tie as tie
 
@@ -20,7 +23,10 @@ same-length : tie.Need-same-length
 same-length c = search needs
 
 returns : tie.Need-returns
-returns c = search copied
+returns c =
+    let a = c .before .before .before .before .before .before .args in
+    let room : a .at + length (a .s .now) ≤ length (a .out .now) = omega arith in
+    search copied
 
 pub lay-spec : {M : Type 1} → statement M
 lay-spec =

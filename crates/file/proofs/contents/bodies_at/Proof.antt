@@ -1,7 +1,7 @@
 -- `file::contents::bodies_at` meets its contract. Assumes nothing.
-use Rattle.file.proofs.Judging.{file-step}
 use native.Mathlib.Omega.{arith}
 use borrow.Author.Needs.{needs}
+use Rattle.file.proofs.Judging.{file-step}
 use Rattle.file.proofs.contents.bodies_at.Statement.{statement}
 use Rattle.file.proofs.contents.bodies_at.Tie as tie
 

@@ -1,9 +1,9 @@
 -- `file::contents::entry_in` meets its contract. Assumes nothing.
-use Rattle.file.proofs.Judging.{place-is, place-room}
-use native.Mathlib.Omega.{arith}
 use mathlib.Core.Path.{ap, _∙_}
-use Rattle.file.specs.Layout.{entryAt}
+use native.Mathlib.Omega.{arith}
 use borrow.Author.Needs.{needs}
+use Rattle.file.specs.Layout.{entryAt}
+use Rattle.file.proofs.Judging.{place-is, place-room}
 use Rattle.file.proofs.contents.entry_in.Statement.{statement}
 use Rattle.file.proofs.contents.entry_in.Tie as tie
 
@@ -12,18 +12,18 @@ width-requires c κs = search needs
 
 mul-entry-at : tie.Need-mul-entry-at
 mul-entry-at c =
-    let a = c .before .before .before .args in
-    omega (arith, place-room (a .c) (a .s .now) (c .before .before .before .pre .0) (a .i) (c .before .before .before .pre .1), place-is (a .c) (a .s .now) _ (a .i) (c .width .ensures))
+    let s = c .before .before .before in
+    omega (arith, place-room _ _ (s .pre .0) (s .args .i) (s .pre .1) _ (c .width .ensures))
 
 add-entry-at : tie.Need-add-entry-at
 add-entry-at c =
-    let a = c .before .before .before .before .args in
-    omega (arith, place-room (a .c) (a .s .now) (c .before .before .before .before .pre .0) (a .i) (c .before .before .before .before .pre .1), place-is (a .c) (a .s .now) _ (a .i) (c .before .width .ensures))
+    let s = c .before .before .before .before in
+    omega (arith, place-room _ _ (s .pre .0) (s .args .i) (s .pre .1) _ (c .before .width .ensures))
 
 entry-at-requires : tie.Need-entry-at-requires
 entry-at-requires c κs =
-    let a = c .before .before .before .before .args in
-    omega (arith, place-room (a .c) (a .s .now) (c .before .before .before .before .pre .0) (a .i) (c .before .before .before .before .pre .1), place-is (a .c) (a .s .now) _ (a .i) (c .before .width .ensures))
+    let s = c .before .before .before .before in
+    omega (arith, place-room _ _ (s .pre .0) (s .args .i) (s .pre .1) _ (c .before .width .ensures))
 
 returns : tie.Need-returns
 returns c =

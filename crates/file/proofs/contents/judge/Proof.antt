@@ -1,6 +1,8 @@
 -- `file::contents::judge` meets its contract. Assumes nothing.
-use Rattle.file.proofs.Judging.{judge-stop, judge-left, judge-done}
+use Prim.Native.Nat.{_≤_, _<_}
+use native.Mathlib.Omega.{arith}
 use borrow.Author.Needs.{needs}
+use Rattle.file.proofs.Judging.{judge-stop, judge-left, judge-done}
 use Rattle.file.proofs.contents.judge.Statement.{statement}
 use Rattle.file.proofs.contents.judge.Tie as tie
 
@@ -17,13 +19,19 @@ refused-requires : tie.Need-refused-requires
 refused-requires c κs = search needs
 
 returns-2 : tie.Need-returns-2
-returns-2 c = search judge-left
+returns-2 c =
+    let j = c .before .before .before .before .before .before in
+    let over : j .judge-entries .result .end < j .before .before .args .c .limit = omega arith in
+    search judge-left
 
 finished-requires : tie.Need-finished-requires
 finished-requires c κs = search needs
 
 returns-3 : tie.Need-returns-3
-returns-3 c = search judge-done
+returns-3 c =
+    let j = c .before .before .before .before .before .before in
+    let none : j .before .before .args .c .limit ≤ j .judge-entries .result .end = omega arith in
+    search judge-done
 
 pub judge-spec : {M : Type 1} → statement M
 judge-spec =

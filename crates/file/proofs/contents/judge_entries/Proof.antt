@@ -1,8 +1,8 @@
--- `file::contents::judge_entries` meets its contract. Assumes nothing.
-use Rattle.file.proofs.Judging.{Walking, walking-begun, walking-done, walking-stop, walking-room, walking-more}
-use borrow.Author.Needs.{needs}
-use native.Mathlib.Omega.{arith}
+-- `file::contents::judge_entries` meets its contract. The loop's invariant: what is left to try gives the reply. Assumes nothing.
 use Prim.Native.Nat.{_-_}
+use native.Mathlib.Omega.{arith}
+use borrow.Author.Needs.{needs}
+use Rattle.file.proofs.Judging.{Walking, walking-begun, walking-done, walking-stop, walking-room, walking-more}
 use Rattle.file.proofs.contents.judge_entries.Statement.{statement}
 use Rattle.file.proofs.contents.judge_entries.Tie as tie
 
@@ -28,7 +28,8 @@ returns : tie.Need-returns Inv-loop μ-loop
 returns c =
     let j = c .before .before in
     let l = j .before .before .before in
-    walking-stop _ _ _ _ (l .before .before .loop .inv) (l .if1 .taken) _ _ _ (j .before .before .entry-in .ensures .0) (j .before .offset-in .ensures) (j .judge-entry .ensures) (c .if2 .taken)
+    walking-stop _ _ _ _ (l .before .before .loop .inv) (l .if1 .taken) _ _ _
+    (j .before .before .entry-in .ensures .0) (j .before .offset-in .ensures) (j .judge-entry .ensures) (c .if2 .taken)
 
 add-t9 : tie.Need-add-t9 Inv-loop μ-loop
 add-t9 c = omega (arith, c .before .before .before .before .before .entry-in .ensures .1 .term)
@@ -40,7 +41,9 @@ add-t11 : tie.Need-add-t11 Inv-loop μ-loop
 add-t11 c =
     let j = c .before .before .before .before .before in
     let l = j .before .before .before in
-    omega (arith, l .before .struct-known .given, walking-room _ _ _ _ (l .before .before .loop .inv) (l .if1 .taken) _ _ _ (j .before .before .entry-in .ensures .0) (j .before .offset-in .ensures) (j .judge-entry .ensures) (c .before .before .before .if2 .left))
+    let room = walking-room _ _ _ _ (l .before .before .loop .inv) (l .if1 .taken) _ _ _
+    (j .before .before .entry-in .ensures .0) (j .before .offset-in .ensures) (j .judge-entry .ensures) (c .before .before .before .if2 .left) in
+    omega (arith, l .before .struct-known .given)
 
 add-i : tie.Need-add-i Inv-loop μ-loop
 add-i c = omega arith
@@ -52,7 +55,9 @@ loop-again : tie.Need-loop-again Inv-loop μ-loop
 loop-again c =
     let j = c .before .before .before .before .before in
     let l = j .before .before .before in
-    walking-more _ _ _ _ (l .before .before .loop .inv) (l .if1 .taken) _ _ _ (j .before .before .entry-in .ensures .0) (j .before .offset-in .ensures) (j .judge-entry .ensures) (c .before .before .before .if2 .left) _ (c .before .size-of .ensures .0)
+    walking-more _ _ _ _ (l .before .before .loop .inv) (l .if1 .taken) _ _ _
+    (j .before .before .entry-in .ensures .0) (j .before .offset-in .ensures) (j .judge-entry .ensures) (c .before .before .before .if2 .left)
+    _ _ (omega arith) (c .before .size-of .ensures .0)
 
 finished-requires : tie.Need-finished-requires Inv-loop μ-loop
 finished-requires c κs = search needs

@@ -1,10 +1,10 @@
 -- `file::contents::judge_entry` meets its contract. Assumes nothing.
-use Rattle.reply.proofs.Answers.{answers, by-code}
-use native.Mathlib.Omega.{arith}
 use Prim.Native.Nat.{_+_, _≤_, _<_}
 use mathlib.Core.Path.{_≡_}
-use Rattle.file.specs.Layout.{sizeOf}
+use native.Mathlib.Omega.{arith}
 use borrow.Author.Needs.{needs}
+use Rattle.reply.proofs.Answers.{answers, by-code}
+use Rattle.file.specs.Layout.{sizeOf}
 use Rattle.file.proofs.contents.judge_entry.Statement.{statement}
 use Rattle.file.proofs.contents.judge_entry.Tie as tie
 
@@ -26,7 +26,7 @@ refused-requires-3 c κs = search needs
 returns-3 : tie.Need-returns-3
 returns-3 c =
     let a = c .before .before .before .before .before .before .before .before .args in
-    let off : a .offset ≡ a .due .at → ⊥ = c .before .if3 .taken in
+    let off : a .offset ≡ a .due .at → ⊥ = λ e. omega (arith, c .before .if3 .taken) in
     search (by-code, answers)
 
 sub-if4 : tie.Need-sub-if4
@@ -41,6 +41,7 @@ refused-requires-4 c κs = search needs
 returns-4 : tie.Need-returns-4
 returns-4 c =
     let a = c .before .before .before .before .before .before .before .before .before .before .before .args in
+    let same : a .offset ≡ a .due .at = omega (arith, c .before .before .before .before .if3 .left) in
     let past : a .limit < a .due .at + sizeOf (a .e) = omega arith in
     search (by-code, answers) depth 8
 
@@ -50,6 +51,7 @@ finished-requires c κs = search needs
 returns-5 : tie.Need-returns-5
 returns-5 c =
     let a = c .before .before .before .before .before .before .before .before .before .before .before .args in
+    let same : a .offset ≡ a .due .at = omega (arith, c .before .before .before .before .if3 .left) in
     let within : a .due .at + sizeOf (a .e) ≤ a .limit = omega arith in
     search (by-code, answers) depth 8
 

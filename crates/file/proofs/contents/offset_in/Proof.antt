@@ -1,9 +1,9 @@
 -- `file::contents::offset_in` meets its contract. Assumes nothing.
-use Rattle.file.proofs.Judging.{place-is, place-room}
-use native.Mathlib.Omega.{arith}
 use mathlib.Core.Path.{ap, _∙_}
-use Rattle.file.specs.Layout.{offsetAt}
+use native.Mathlib.Omega.{arith}
 use borrow.Author.Needs.{needs}
+use Rattle.file.specs.Layout.{offsetAt}
+use Rattle.file.proofs.Judging.{place-is, place-room}
 use Rattle.file.proofs.contents.offset_in.Statement.{statement}
 use Rattle.file.proofs.contents.offset_in.Tie as tie
 
@@ -12,18 +12,18 @@ width-requires c κs = search needs
 
 mul-offset-at : tie.Need-mul-offset-at
 mul-offset-at c =
-    let a = c .before .before .before .args in
-    omega (arith, place-room (a .c) (a .s .now) (c .before .before .before .pre .0) (a .i) (c .before .before .before .pre .1), place-is (a .c) (a .s .now) _ (a .i) (c .width .ensures))
+    let s = c .before .before .before in
+    omega (arith, place-room _ _ (s .pre .0) (s .args .i) (s .pre .1) _ (c .width .ensures))
 
 add-offset-at : tie.Need-add-offset-at
 add-offset-at c =
-    let a = c .before .before .before .before .args in
-    omega (arith, place-room (a .c) (a .s .now) (c .before .before .before .before .pre .0) (a .i) (c .before .before .before .before .pre .1), place-is (a .c) (a .s .now) _ (a .i) (c .before .width .ensures))
+    let s = c .before .before .before .before in
+    omega (arith, place-room _ _ (s .pre .0) (s .args .i) (s .pre .1) _ (c .before .width .ensures))
 
 offset-at-requires : tie.Need-offset-at-requires
 offset-at-requires c κs =
-    let a = c .before .before .before .before .args in
-    (omega (arith, place-room (a .c) (a .s .now) (c .before .before .before .before .pre .0) (a .i) (c .before .before .before .before .pre .1), place-is (a .c) (a .s .now) _ (a .i) (c .before .width .ensures)), c .before .before .before .before .pre .0 .narrow)
+    let s = c .before .before .before .before in
+    (omega (arith, place-room _ _ (s .pre .0) (s .args .i) (s .pre .1) _ (c .before .width .ensures)), s .pre .0 .narrow)
 
 returns : tie.Need-returns
 returns c =

@@ -1,6 +1,6 @@
 -- `file::layout::entry_at` meets its contract. Assumes nothing.
-use Rattle.file.proofs.Codec.{entry-is}
 use borrow.Author.Needs.{needs}
+use Rattle.file.proofs.Codec.{entry-is}
 use Rattle.file.proofs.layout.entry_at.Statement.{statement}
 use Rattle.file.proofs.layout.entry_at.Tie as tie
 

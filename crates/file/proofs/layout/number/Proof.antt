@@ -1,8 +1,8 @@
 -- `file::layout::number` meets its contract. Assumes nothing.
 use Prim.Native.Nat.{_<_, _^_}
+use borrow.Author.Needs.{needs}
 use Rattle.table.specs.Num.{num}
 use Rattle.table.proofs.Num.{num-lt}
-use borrow.Author.Needs.{needs}
 use Rattle.file.proofs.layout.number.Statement.{statement}
 use Rattle.file.proofs.layout.number.Tie as tie
 

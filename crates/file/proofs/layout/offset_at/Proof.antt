@@ -1,6 +1,6 @@
 -- `file::layout::offset_at` meets its contract. Assumes nothing.
-use Rattle.file.proofs.Codec.{field-none, offset-some}
 use borrow.Author.Needs.{needs}
+use Rattle.file.proofs.Codec.{field-none, offset-some}
 use Rattle.file.proofs.layout.offset_at.Statement.{statement}
 use Rattle.file.proofs.layout.offset_at.Tie as tie
 

@@ -1,6 +1,6 @@
 -- `file::layout::put_entry` meets its contract. Assumes nothing.
-use Rattle.file.proofs.Codec.{entry-put}
 use borrow.Author.Needs.{needs}
+use Rattle.file.proofs.Codec.{entry-put}
 use Rattle.file.proofs.layout.put_entry.Statement.{statement}
 use Rattle.file.proofs.layout.put_entry.Tie as tie
 

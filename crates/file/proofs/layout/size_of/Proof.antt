@@ -1,6 +1,6 @@
 -- `file::layout::size_of` meets its contract. Assumes nothing.
-use Rattle.file.proofs.Codec.{size-is}
 use borrow.Author.Needs.{needs}
+use Rattle.file.proofs.Codec.{size-is}
 use Rattle.file.proofs.layout.size_of.Statement.{statement}
 use Rattle.file.proofs.layout.size_of.Tie as tie
 

@@ -1,6 +1,6 @@
 -- `file::reader::contents_of` meets its contract. Assumes nothing.
-use Rattle.file.proofs.Replies.{filed-is}
 use borrow.Author.Needs.{needs}
+use Rattle.file.proofs.Replies.{filed-is}
 use Rattle.file.proofs.reader.contents_of.Statement.{statement}
 use Rattle.file.proofs.reader.contents_of.Tie as tie
 

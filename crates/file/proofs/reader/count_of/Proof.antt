@@ -1,8 +1,8 @@
 -- `file::reader::count_of` meets its contract. Assumes nothing.
 use mathlib.Core.Path.{ap}
+use native.Mathlib.Omega.{arith}
 use Rattle.file.specs.declared.contents.Contents.{Contents}
 use Rattle.file.proofs.Accepted.{read-iff}
-use native.Mathlib.Omega.{arith}
 use Rattle.file.proofs.reader.count_of.Statement.{statement}
 use Rattle.file.proofs.reader.count_of.Tie as tie
 

@@ -1,8 +1,8 @@
 -- `file::reader::read_file` meets its contract. Assumes nothing.
-use Rattle.reply.proofs.Answers.{answers, by-code}
-use Rattle.file.proofs.Replies.{read-listed, read-bad, read-short, read-judged}
-use Rattle.file.specs.Tries.{readTries}
 use borrow.Author.Needs.{needs}
+use Rattle.reply.proofs.Answers.{answers, by-code}
+use Rattle.file.specs.Tries.{readTries}
+use Rattle.file.proofs.Replies.{read-listed, read-bad, read-short, read-judged}
 use Rattle.file.proofs.reader.read_file.Statement.{statement}
 use Rattle.file.proofs.reader.read_file.Tie as tie
 

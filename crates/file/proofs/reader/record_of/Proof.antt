@@ -1,8 +1,8 @@
 -- `file::reader::record_of` meets its contract. Assumes nothing.
-use Rattle.file.proofs.Round.{found-listed, found}
-use Rattle.file.proofs.Accepted.{read-iff}
 use native.Mathlib.Omega.{arith}
 use borrow.Author.Needs.{needs}
+use Rattle.file.proofs.Round.{found-listed, found}
+use Rattle.file.proofs.Accepted.{read-iff}
 use Rattle.file.proofs.reader.record_of.Statement.{statement}
 use Rattle.file.proofs.reader.record_of.Tie as tie
 
@@ -17,22 +17,26 @@ entry-in-requires c κs =
 offset-in-requires : tie.Need-offset-in-requires
 offset-in-requires c κs =
     let s = c .before .before .before in
-    found-listed _ (read-iff _ .0 (s .pre .0)) _ (c .before .contents-of .ensures) _ (s .pre .1)
+    let h = found-listed _ (read-iff _ .0 (s .pre .0)) _ (c .before .contents-of .ensures) _ (s .pre .1) in
+    (h .0, omega (arith, h .1))
 
 size-of-requires : tie.Need-size-of-requires
 size-of-requires c κs = search needs
 
 add-end : tie.Need-add-end
 add-end c =
-    let s = c .before .before .before .before .before in
-    let e = c .before .before .entry-in .ensures .0 in
-    omega (arith, found _ (read-iff _ .0 (s .pre .0)) _ (c .before .before .before .contents-of .ensures) _ (s .pre .1) _ _ _ e (c .before .offset-in .ensures) (c .size-of .ensures .0) .within)
+    let o = c .before in
+    let s = o .before .before .before .before in
+    let q = found _ (read-iff _ .0 (s .pre .0)) _ (o .before .before .contents-of .ensures) _ (s .pre .1) _ _ _ _
+    (o .before .entry-in .ensures .0) (o .offset-in .ensures) (c .size-of .ensures .0) in
+    omega (arith, q .within)
 
 returns : tie.Need-returns
 returns c =
-    let s = c .before .before .before .before .before in
-    let e = c .before .before .entry-in .ensures .0 in
-    found _ (read-iff _ .0 (s .pre .0)) _ (c .before .before .before .contents-of .ensures) _ (s .pre .1) _ _ _ e (c .before .offset-in .ensures) (c .size-of .ensures .0)
+    let o = c .before in
+    let s = o .before .before .before .before in
+    found _ (read-iff _ .0 (s .pre .0)) _ (o .before .before .contents-of .ensures) _ (s .pre .1) _ _ _ _
+    (o .before .entry-in .ensures .0) (o .offset-in .ensures) (c .size-of .ensures .0)
 
 pub record-of-spec : {M : Type 1} → statement M
 record-of-spec =

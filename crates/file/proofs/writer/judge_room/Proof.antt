@@ -1,9 +1,9 @@
 -- `file::writer::judge_room` meets its contract. Assumes nothing.
-use Rattle.reply.proofs.Answers.{answers, by-code}
-use native.Mathlib.Omega.{arith}
 use Prim.Native.Nat.{_+_, _≤_, _<_}
-use Rattle.file.specs.Limits.{mostBytes}
+use native.Mathlib.Omega.{arith}
 use borrow.Author.Needs.{needs}
+use Rattle.reply.proofs.Answers.{answers, by-code}
+use Rattle.file.specs.Limits.{mostBytes}
 use Rattle.file.proofs.writer.judge_room.Statement.{statement}
 use Rattle.file.proofs.writer.judge_room.Tie as tie
 
@@ -29,6 +29,7 @@ returns-2 : tie.Need-returns-2
 returns-2 c =
     let a = c .before .before .before .args in
     let short : a .start + a .run ≤ mostBytes = omega arith in
+    let over : a .room < a .start + a .run = omega arith in
     search (by-code, answers)
 
 finished-requires : tie.Need-finished-requires

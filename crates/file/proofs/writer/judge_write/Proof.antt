@@ -1,10 +1,10 @@
 -- `file::writer::judge_write` meets its contract. Assumes nothing.
-use Rattle.reply.proofs.Answers.{answers, by-code}
 use native.Mathlib.Omega.{arith}
-use Rattle.file.proofs.Replies.{write-listed, write-bad, write-stop, write-room}
-use Rattle.file.specs.Tries.{writeTries}
-use Rattle.file.proofs.Judging.{few}
 use borrow.Author.Needs.{needs}
+use Rattle.reply.proofs.Answers.{answers, by-code}
+use Rattle.file.specs.Tries.{writeTries}
+use Rattle.file.proofs.Replies.{write-listed, write-bad, write-stop, write-room}
+use Rattle.file.proofs.Judging.{few}
 use Rattle.file.proofs.writer.judge_write.Statement.{statement}
 use Rattle.file.proofs.writer.judge_write.Tie as tie
 
@@ -34,10 +34,14 @@ returns-3 : tie.Need-returns-3
 returns-3 c = search write-stop
 
 bodies-at-requires : tie.Need-bodies-at-requires
-bodies-at-requires c κs = omega (arith, few (c .before .before .before .before .before .lent-in .result .count) _ (c .before .before .before .before .bad-count .ensures) (c .before .before .before .if2 .left))
+bodies-at-requires c κs =
+    let b = c .before .before .before .before in
+    omega (arith, few (b .before .lent-in .result .count) _ (b .bad-count .ensures) (c .before .before .before .if2 .left))
 
 judge-room-requires : tie.Need-judge-room-requires
-judge-room-requires c κs = omega (arith, few (c .before .before .before .before .before .before .lent-in .result .count) _ (c .before .before .before .before .before .bad-count .ensures) (c .before .before .before .before .if2 .left))
+judge-room-requires c κs =
+    let b = c .before .before .before .before .before in
+    omega (arith, few (b .before .lent-in .result .count) _ (b .bad-count .ensures) (c .before .before .before .before .if2 .left))
 
 returns-4 : tie.Need-returns-4
 returns-4 c = search write-room

@@ -1,6 +1,6 @@
 -- `file::writer::lent_in` meets its contract. Assumes nothing.
-use Rattle.file.proofs.Replies.{lent-is}
 use borrow.Author.Needs.{needs}
+use Rattle.file.proofs.Replies.{lent-is}
 use Rattle.file.proofs.writer.lent_in.Statement.{statement}
 use Rattle.file.proofs.writer.lent_in.Tie as tie
 

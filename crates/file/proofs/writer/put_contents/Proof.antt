@@ -1,8 +1,8 @@
--- `file::writer::put_contents` meets its contract. Assumes nothing.
-use Rattle.file.proofs.Writing.{Putting, putting-begun, putting-done, putting-room, putting-more}
-use borrow.Author.Needs.{needs}
+-- `file::writer::put_contents` meets its contract. The loop's invariant: what is still to be laid gives what is to be. Assumes nothing.
 use Prim.Native.Nat.{_-_}
 use native.Mathlib.Omega.{arith}
+use borrow.Author.Needs.{needs}
+use Rattle.file.proofs.Writing.{Putting, putting-begun, putting-done, putting-room, putting-more}
 use Rattle.file.proofs.writer.put_contents.Statement.{statement}
 use Rattle.file.proofs.writer.put_contents.Tie as tie
 

@@ -1,9 +1,9 @@
 -- `file::writer::put_file` meets its contract. Assumes nothing.
+use native.Mathlib.Omega.{arith}
+use borrow.Author.Needs.{needs}
 use Rattle.file.proofs.Writing.{put-count, put-room, put-roomy, put-file}
 use Rattle.file.proofs.Accepted.{write-iff}
 use Rattle.file.proofs.Replies.{write-listed}
-use native.Mathlib.Omega.{arith}
-use borrow.Author.Needs.{needs}
 use Rattle.file.proofs.writer.put_file.Statement.{statement}
 use Rattle.file.proofs.writer.put_file.Tie as tie
 

@@ -1,8 +1,8 @@
 -- `file::writer::write_file` meets its contract. Assumes nothing.
 use mathlib.Core.Path.{sym, _∙_}
+use borrow.Author.Needs.{needs}
 use Rattle.reply.proofs.Exactly.{code-of}
 use Rattle.reply.proofs.First.{if-done, if-refused}
-use borrow.Author.Needs.{needs}
 use Rattle.file.proofs.writer.write_file.Statement.{statement}
 use Rattle.file.proofs.writer.write_file.Tie as tie
 
