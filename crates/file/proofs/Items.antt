@@ -6,6 +6,7 @@ use native.Mathlib.Numerals.{add-one}
 use native.Mathlib.Omega.{arith}
 use lib.ListN.{length, getD, take, drop, length-append, length-drop}
 use lib.Seq.{take-add, drop-drop, take-at, drop-at, length-take-le}
+use Rattle.lists.specs.Lists.{All}
 use Rattle.reply.proofs.Exactly.{from-next}
 use Rattle.file.specs.declared.layout.Entry.{Entry}
 use Rattle.file.specs.declared.layout.Widths.{Widths}
@@ -13,7 +14,7 @@ use Rattle.file.specs.declared.contents.Contents.{Contents}
 use Rattle.file.specs.Layout.{widthOf, encode, Fits, sizeOf}
 use Rattle.file.specs.Contents.{placeIn, entryIn, entriesFrom, dueIn, offsetIn}
 use Rattle.file.specs.Items.{Bytes, Item, noItem, entriesOf, contents, bodies, paired}
-use Rattle.file.specs.Sound.{All, Known, Rising, Good}
+use Rattle.file.specs.Sound.{Known, Rising, Good}
 use Rattle.file.proofs.Codec.{Holds, length-encode, entry-past, entry-here, offset-here, join, encode-back}
 
 -- ---- entries and their bodies

@@ -3,6 +3,7 @@ use Prim.Native.Nat.{ℕ, _+_, _%_, _≤_, _<_}
 use mathlib.Core.Path.{_≡_}
 use mathlib.Core.List.{List, [], _∷_}
 use lib.ListN.{length}
+use Rattle.lists.specs.Lists.{All}
 use Rattle.record.specs.Limits.{mostKind}
 use Rattle.file.specs.declared.layout.Entry.{Entry}
 use Rattle.file.specs.declared.contents.Contents.{Contents}
@@ -13,11 +14,6 @@ use Rattle.file.specs.Items.{Item, entriesOf, fileLength}
 use Rattle.file.specs.Tries.{lentLength}
 
 -- ITEMS
-
--- every element is so
-abbrev pub All : {A : Type 0} → (A → Type 0) → List A → Type 0
-All P [] = Unit {0}
-All P (x ∷ xs) = P x × All P xs
 
 -- "24: sample kind not 0 or 1"
 abbrev pub Known : Entry → Type 0
