@@ -1,19 +1,19 @@
 -- What a solve promises of its reply, for all that is asked. Assumes nothing.
-use Prim.Native.Nat.{ℕ}
+use Prim.Native.Nat.{ℕ, _≤_}
 use mathlib.Core.Path.{_≡_, refl, sym, _∙_}
 use mathlib.Core.Bool.{false}
 use mathlib.Core.Logic.{inl, inr, ⊎-elim, _↔_}
 use mathlib.Core.List.{List, _∷_}
-use lib.Dec.{lit≤}
+use Rattle.cutting.specs.Limits.{mostObservations}
 use Rattle.reply.specs.Reply.{done}
 use Rattle.reply.specs.Codes.{among}
 use Rattle.reply.specs.Tries.{firstOf, Coded, Within, Every}
-use Rattle.reply.specs.Answered.{Answered}
+use Rattle.reply.specs.Answered.{Answered, Placed}
 use Rattle.reply.proofs.Exactly.{told, some-code, clear-done, refused-gives, answered, not-among}
 use Rattle.reply.proofs.Answers.{last-fails, past, one-holds, other-holds}
 use Rattle.record.specs.declared.Asked.{Asked}
 use Rattle.record.specs.Body.{observations}
-use Rattle.record.specs.Tries.{Placed}
+use Rattle.record.specs.Tries.{indexCodes}
 use Rattle.engine.specs.Total.{exceeds}
 use Rattle.engine.specs.Solve.{solveTries, givenTries, solveCodes, solveReply}
 use Rattle.engine.specs.Accepted.{Accepted}
@@ -21,7 +21,7 @@ use Rattle.engine.proofs.Limit as limit
 use Rattle.engine.proofs.Accepted as accept
 
 module _ (asked : Asked) (body : List ℕ) (costs starts : ℕ) where
-  pub given-coded : Coded (givenTries asked body costs starts)
+  given-coded : Coded (givenTries asked body costs starts)
   given-coded = search depth 20
 
   -- 12 is tried last, and its reason does not hold where all else is clear
@@ -39,12 +39,15 @@ module _ (asked : Asked) (body : List ℕ) (costs starts : ℕ) where
 
   -- "A refusal is given only where its stated reason holds; where none does, the reply is 0." "For a record: 3, then 1, 2, 4, 5, 6, 7, then 8 over all
   -- indices, then samples by index, where one sample is tried for 9, 10, 11." "place is the later index", "place is its index", and "0 unless stated".
-  pub solve-answered : Answered solveCodes (Placed (observations body)) (givenTries asked body costs starts) (solveReply asked body costs starts)
+  pub solve-answered : Answered solveCodes (Placed indexCodes (observations body) mostObservations) (givenTries asked body costs starts) (solveReply asked body costs starts)
   unfolding among
   solve-answered =
       let within : Within solveCodes (givenTries asked body costs starts) = search depth 20 in
-      let placed : Every (Placed (observations body)) (givenTries asked body costs starts) = search (one-holds, other-holds, lit≤, tt) depth 20 in
-      rw given-all (answered solveCodes (Placed (observations body)) (givenTries asked body costs starts) given-coded within (inl refl) placed)
+      let placed : Every (Placed indexCodes (observations body) mostObservations) (givenTries asked body costs starts) = (
+        search (one-holds, other-holds, tt) depth 20,
+        λ shape. let few : observations body ≤ mostObservations = shape .1 .0 .0 .1 in search (one-holds, other-holds, tt) depth 20,
+      ) in
+      rw given-all (answered solveCodes (Placed indexCodes (observations body) mostObservations) (givenTries asked body costs starts) given-coded within (inl refl) placed)
 
   -- It is 0 exactly for a record that is `Accepted`.
   pub solve-accepted : (solveReply asked body costs starts .code ≡ 0) ↔ Accepted asked body costs starts

@@ -35,7 +35,7 @@ file-step w step n hw h = ap (λ (x : ℕ). x * n) (h ∙ ap widthOf hw)
 
 -- what is tried of an entry has proper codes, and a reply of 0 says that nothing of it holds
 pub coded-entry : (e : Entry) (offset : ℕ) (due : Due) (limit i : ℕ) → Coded (entryTries e offset due limit i)
-coded-entry e offset due limit i = (refl, (refl, (refl, refl)))
+coded-entry e offset due limit i = search depth 20
 
 module _ (c : Contents) (s : List ℕ) where
   -- entry i is there

@@ -1,7 +1,5 @@
 -- What is tried of a file, and of what is lent to the writer, in the scope's order: each fact with its code and its place.
-use Prim.Native.Nat.{ℕ, _+_, _%_, _≤_, _<_}
-use mathlib.Core.Path.{_≡_}
-use mathlib.Core.Logic.{_⊎_}
+use Prim.Native.Nat.{ℕ, _+_, _%_}
 use mathlib.Core.List.{List, [], _∷_}
 use lib.ListN.{length}
 use Rattle.buffer.specs.Laid.{laid}
@@ -31,6 +29,10 @@ entryTries e offset due limit i =
     then try (offset is-not due .at) 22 i
     then try (due .at + sizeOf e is-above limit) 22 i
 
+-- their codes, for which "place is the entry"
+abbrev pub entryCodes : List ℕ
+entryCodes = 23 ∷ 24 ∷ 22 ∷ []
+
 abbrev pub triesIn : Contents → List ℕ → ℕ → Tries
 triesIn c s i = entryTries (entryIn c s i) (offsetIn c s i) (dueIn c s i) (c .limit) i
 
@@ -54,7 +56,7 @@ readTries f =
     then entriesTries (filed f) f
 
 abbrev pub readCodes : List ℕ
-readCodes = 26 ∷ 20 ∷ 21 ∷ 23 ∷ 24 ∷ 22 ∷ 25 ∷ []
+readCodes = 26 ∷ 20 ∷ 21 ∷ 25 ∷ entryCodes
 
 abbrev pub readReply : List ℕ → Reply
 readReply f = firstOf (readTries f)
@@ -75,14 +77,10 @@ writeTries es bs room =
     then roomTries (lentLength es bs) room
 
 abbrev pub writeCodes : List ℕ
-writeCodes = 20 ∷ 21 ∷ 23 ∷ 24 ∷ 22 ∷ 25 ∷ 26 ∷ 27 ∷ []
+writeCodes = 20 ∷ 21 ∷ 25 ∷ 26 ∷ 27 ∷ entryCodes
 
 abbrev pub writeReply : (es bs : List ℕ) → ℕ → Reply
 writeReply es bs room = firstOf (writeTries es bs room)
-
--- "Place is 0 unless stated", and for 22 to 24 "place is the entry", of n entries, which are at most 64.
-abbrev pub Placed : ℕ → Reply → Type 0
-Placed n r = (r .place ≡ 0) ⊎ ((22 ≤ r .code) × ((r .code ≤ 24) × ((r .place < n) × (n ≤ mostRecords))))
 
 -- What the output o is on return: the file of what is lent, laid over it, "Output past the file's end keeps its bytes"; or, refused, as it was.
 abbrev pub fileLeft : (es bs o : List ℕ) → List ℕ

@@ -1,12 +1,16 @@
 -- All that is promised of the reply to a call, by what the call tries.
-use Prim.Native.Nat.{ℕ, _<_}
+use Prim.Native.Nat.{ℕ, _≤_, _<_}
 use mathlib.Core.Path.{_≡_}
 use mathlib.Core.Bool.{true}
-use mathlib.Core.Logic.{_↔_}
+use mathlib.Core.Logic.{_⊎_, _↔_}
 use mathlib.Core.List.{List, _∷_}
 use Rattle.reply.specs.declared.Reply.{Reply}
 use Rattle.reply.specs.Codes.{among}
 use Rattle.reply.specs.Tries.{Tries, firstOf, Clear, Refused}
+
+-- "Place is 0 unless stated": for these codes it is an index below n, which is then at most `most`.
+abbrev pub Placed : List ℕ → (n most : ℕ) → Reply → Type 0
+Placed cs n most r = (r .place ≡ 0) ⊎ ((among (r .code) cs ≡ true) × ((r .place < n) × (n ≤ most)))
 
 -- r answers the tries, whose codes are cs, and has the property P, which says what places there are.
 pub record Answered (cs : List ℕ) (P : Reply → Type 0) (ts : Tries) (r : Reply) : Type 0 where
