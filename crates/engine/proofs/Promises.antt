@@ -10,7 +10,7 @@ use Rattle.reply.specs.Codes.{among}
 use Rattle.reply.specs.Tries.{firstOf, Coded, Within, Every}
 use Rattle.reply.specs.Answered.{Answered, Placed}
 use Rattle.reply.proofs.Exactly.{told, some-code, clear-done, refused-gives, answered, not-among}
-use Rattle.reply.proofs.Answers.{last-fails, past, one-holds, other-holds}
+use Rattle.reply.proofs.Answers.{last-fails, past, placed}
 use Rattle.record.specs.declared.Asked.{Asked}
 use Rattle.record.specs.Body.{observations}
 use Rattle.record.specs.Tries.{indexCodes}
@@ -43,11 +43,11 @@ module _ (asked : Asked) (body : List ℕ) (costs starts : ℕ) where
   unfolding among
   solve-answered =
       let within : Within solveCodes (givenTries asked body costs starts) = search depth 20 in
-      let placed : Every (Placed indexCodes (observations body) mostObservations) (givenTries asked body costs starts) = (
-        search (one-holds, other-holds, tt) depth 20,
-        λ shape. let few : observations body ≤ mostObservations = shape .1 .0 .0 .1 in search (one-holds, other-holds, tt) depth 20,
+      let places : Every (Placed indexCodes (observations body) mostObservations) (givenTries asked body costs starts) = (
+        search placed depth 20,
+        λ shape. let few : observations body ≤ mostObservations = shape .1 .0 .0 .1 in search placed depth 20,
       ) in
-      rw given-all (answered solveCodes (Placed indexCodes (observations body) mostObservations) (givenTries asked body costs starts) given-coded within (inl refl) placed)
+      rw given-all (answered solveCodes (Placed indexCodes (observations body) mostObservations) (givenTries asked body costs starts) given-coded within (inl refl) places)
 
   -- It is 0 exactly for a record that is `Accepted`.
   pub solve-accepted : (solveReply asked body costs starts .code ≡ 0) ↔ Accepted asked body costs starts

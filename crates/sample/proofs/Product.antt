@@ -14,10 +14,11 @@ use lib.Ieee.Exact.{HasValue}
 use lib.Ieee.Nearest.{div-same}
 use lib.Ieee.Compare.{differs-from-itself}
 use borrow.Author.Tests.{ltb-true, ltb-false, eqb-true, eqb-false, lt-ltb, le-ltb, eq-eqb, ne-eqb}
+use Rattle.sample.specs.Level.{power}
 use Rattle.sample.specs.declared.Judged.{Judged}
 use Rattle.sample.specs.declared.Judged.the-variants.{Whole, NotFinite, OutOfRange, NotWhole}
 use Rattle.sample.specs.Judge.{signed, judgedRatio, judgedShare}
-use Rattle.sample.proofs.Scaled.{power, product-exact, product-over}
+use Rattle.sample.proofs.Scaled.{product-exact, product-over}
 use Rattle.sample.proofs.Whole.{same-test, nearest, whole-test}
 
 -- ---- a judgement sees only the value of its fraction

@@ -13,12 +13,12 @@ use borrow.Author.Tests.{le-ltb, lt-ltb, le-leb, lt-leb, ne-eqb}
 use Rattle.sample.specs.declared.Sample.{Sample}
 use Rattle.sample.specs.declared.Sample.the-variants.{Count, Share}
 use Rattle.sample.specs.declared.Judged.the-variants.{Whole}
-use Rattle.sample.specs.Level.{largest, scale, InRange, level}
+use Rattle.sample.specs.Level.{largest, scale, InRange, level, power}
 use Rattle.sample.specs.Judge.{signed, judgedRatio, judgedShare, judgedCount, judgedOf}
 use Rattle.sample.specs.Code.{codeOf}
 use Rattle.sample.specs.Word.{sampleOf}
 use Rattle.sample.specs.Shares.{Shown, shares}
-use Rattle.sample.proofs.Scaled.{power, product-exact}
+use Rattle.sample.proofs.Scaled.{product-exact}
 use Rattle.sample.proofs.Product.{judgedProduct, product-judged}
 use Rattle.sample.proofs.Nan.{is-nan}
 use Rattle.sample.proofs.Range.{whole-in-range, level-is, level-le}

@@ -7,11 +7,12 @@ use mathlib.Core.Bool.{Bool, true, false, _&&_}
 use lib.IntN.{ℤ, pos, negsuc}
 use lib.Dec.{T, ltb, leb, eqb, ltb→lt, leb→le, eqb→eq}
 use lib.Pow.{pow-add, pow-pos, pow-lt, shl-lt}
-use lib.Ieee.{Float, fin, inf, Format, prec, emax, low, up, down, size, units, round, mul, fits}
+use lib.Ieee.{fin, inf, Format, prec, emax, low, up, down, size, units, round, mul, fits}
 use lib.Ieee.Digits.{size-le, back}
 use lib.Ieee.Fits.{core, round-is, down-pos, and-l, and-r}
 use lib.Ieee.Exact.{HasValue, round-exact}
 use borrow.Author.Tests.{le-ltb}
+use Rattle.sample.specs.Level.{power}
 
 -- ---- what `fits` says of a finite value
 
@@ -72,10 +73,6 @@ round-over f s num den q j dp small over h =
     ∙ units-over f s r k (subst (λ (x : ℕ). 2 ^ (low f + suc (emax f)) ≤ x) (sym e3) over)
 
 -- ---- the product
-
--- 2 ^ t
-abbrev pub power : ℕ → Float
-power t = fin false 1 (pos t)
 
 times : (f : Format) (s : Bool) (m : ℕ) (e : ℤ) (t : ℕ) → mul f (fin s m e) (power t) ≡ round f s (m * up e * 2 ^ t) (down e)
 unfolding mul

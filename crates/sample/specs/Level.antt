@@ -1,6 +1,8 @@
 -- The range of a sample, and a sample in range as a natural number.
 use Prim.Native.Nat.{ℕ, _≤_}
+use mathlib.Core.Bool.{false}
 use lib.IntN.{ℤ, pos, natAbs, _+ℤ_}
+use lib.Ieee.{Float, fin}
 
 -- the largest size of a sample, and by how much a share is scaled
 abbrev pub largest : ℕ
@@ -8,6 +10,10 @@ largest = 1000000
 
 abbrev pub scale : ℕ
 scale = 65536
+
+-- 2 ^ t as a float: 65,536 is `power 16`
+abbrev pub power : ℕ → Float
+power t = fin false 1 (pos t)
 
 -- "Sample: a whole x from -1,000,000 to 1,000,000."
 abbrev pub InRange : ℤ → Type 0

@@ -6,9 +6,9 @@ use lib.Ieee.{Float, binary64, mul, lt, eq, neg, ofBits, inSigned, toSigned}
 use lib.Ieee.Casts.{toSigned-in}
 use mir.Syntax.{w64}
 use mir.ValLaws.{toZ-ofZ}
+use Rattle.sample.specs.Level.{power}
 use Rattle.sample.specs.declared.Judged.the-variants.{Whole}
 use Rattle.sample.specs.Judge.{judgedShare}
-use Rattle.sample.proofs.Scaled.{power}
 use Rattle.sample.proofs.Product.{judgedProduct, not-finite, share-judged, lowest, highest, zero-float, too-low, too-high, not-whole, is-zero-whole, is-whole-cast}
 use Rattle.sample.proofs.judge_share.Statement.{statement}
 use Rattle.sample.proofs.judge_share.Tie as tie
