@@ -14,10 +14,6 @@ mostSegments = 12
 abbrev pub leastLength : ℕ
 leastLength = 1
 
--- "Sample: a whole x from -1,000,000 to 1,000,000." A sample's level is x + 1,000,000.
-abbrev pub largestLevel : ℕ
-largestLevel = 2000000
-
 -- "Tables are little-endian entries of 8 and 2 bytes": the costs' and the starts'.
 abbrev pub costBytes : ℕ
 costBytes = 8

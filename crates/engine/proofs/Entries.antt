@@ -9,6 +9,7 @@ use Rattle.table.proofs.Promises.{kept-beyond}
 use Rattle.cutting.specs.Limits.{leastLength, costBytes, startBytes}
 use Rattle.cutting.specs.Recurrence.{last}
 use Rattle.cutting.specs.Table.{noCost, noStart}
+use Rattle.kernel.specs.Cost.{mostUnits}
 use Rattle.recurrence.specs.Tables.{costEntry, startEntry}
 use Rattle.recurrence.proofs.Tables as tables
 use Rattle.reply.proofs.First.{if-done}
@@ -17,7 +18,7 @@ use Rattle.record.specs.Body.{observations}
 use Rattle.record.specs.Cost.{costOf, leastOf}
 use Rattle.engine.specs.Solve.{solveReply, solvedCosts, solvedStarts, costsLeft, startsLeft}
 use Rattle.engine.specs.Accepted.{Accepted}
-use Rattle.engine.proofs.Limit.{most, segment-small}
+use Rattle.engine.proofs.Limit.{segment-small}
 use Rattle.engine.proofs.Accepted.{accepted, all-whole, costs-space, starts-space}
 
 module _ (asked : Asked) (body costs starts : List ℕ) (a : Accepted asked body (length costs) (length starts)) where
@@ -40,7 +41,7 @@ module _ (asked : Asked) (body costs starts : List ℕ) (a : Accepted asked body
     cost-is fits =
         rw costs-solved
         (tables.cost-is (costOf asked body) (observations body) (asked .dmax) (a .fit .count .few-days) D t some few upto costs (costs-space a)
-        most (segment-small asked body (all-whole a)) (omega (arith, a .fit .count .few-days)) (omega arith))
+        mostUnits (segment-small asked body (all-whole a)) (omega (arith, a .fit .count .few-days)) (omega arith))
 
     pub start-is :
         D ≤ t → startEntry (observations body) (startsLeft asked body costs starts) D t ≡ last (costOf asked body) leastLength 0 (D - 1) t

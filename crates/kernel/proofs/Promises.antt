@@ -5,7 +5,7 @@ use mathlib.Core.Path.{_≡_, refl, ap, _∙_}
 use mathlib.Core.Logic.{_↔_}
 use mathlib.Core.Bool.{false}
 use mathlib.Core.List.{List, [], _∷_, map, reverse, List·Memᴰ, List·Memᴰ·head, List·Memᴰ·tail}
-use Prim.Native.Nat.{ℕ, _+_, _*_, _≤_, _/_, _<_, _∣_, min}
+use Prim.Native.Nat.{ℕ, _+_, _*_, _≤_, _/_, _^_, _<_, _∣_, min}
 use native.Mathlib.Omega.{arith}
 use lib.ListN.{length}
 use lib.IntN.{ℤ, pos, negsuc, natAbs, negℤ, _+ℤ_}
@@ -21,7 +21,7 @@ use Rattle.sample.specs.Level.{InRange}
 use Rattle.cutting.specs.Costs.{Agree, mirror, Within, Splittable}
 use Rattle.cutting.specs.Recurrence.{chosenIn}
 use Rattle.kernel.specs.Channels.{channels, InRanges, each, Keeps}
-use Rattle.kernel.specs.Cost.{A, B, R, units, cost}
+use Rattle.kernel.specs.Cost.{A, B, R, units, cost, perOne, mostUnits}
 use Rattle.kernel.specs.Kernel.{kernel, negative, numberOf, namedOf, gap, dist, Recodes}
 use Rattle.lists.specs.Lists.{All}
 use Rattle.kernel.specs.Pairs.{pairs}
@@ -126,30 +126,30 @@ cost-reverse k = Segment.cost-reverse (kernel k)
 -- ---- bounds
 -- "its bound on totals (below 2⁶³ for 400 samples of at most 1,000,000 ..": no segment costs more than 4,096 · 10¹²
 -- units for each observation, ..
-pub cost-small : (k : Kernel) (l : List ℤ) → All InRange l → (m : ℕ) → Within (cost (kernel k) l) 4096000000000000 m 0 (length l)
+pub cost-small : (k : Kernel) (l : List ℤ) → All InRange l → (m : ℕ) → Within (cost (kernel k) l) mostUnits m 0 (length l)
 cost-small k l = cost-most (law k) InRange 1000000000000 (own-le k) l
 
 -- .. so no cutting's cost reaches 2⁶³, whatever its least length m, ..
 pub total-fits :
     (k : Kernel) (l : List ℤ) → All InRange l → length l ≤ 400 →
-    (m d t : ℕ) (c : List ℕ) → cutting.Cutting m 0 d t c → t ≤ length l → cutting.cost (cost (kernel k) l) t c < 9223372036854775808
+    (m d t : ℕ) (c : List ℕ) → cutting.Cutting m 0 d t c → t ≤ length l → cutting.cost (cost (kernel k) l) t c < 2 ^ 63
 total-fits k l p n m d t c g upto =
-    omega (arith, cuttings.cost-within (cost (kernel k) l) 4096000000000000 m 0 (length l) (cost-small k l p m) d t c g upto)
+    omega (arith, cuttings.cost-within (cost (kernel k) l) mostUnits m 0 (length l) (cost-small k l p m) d t c g upto)
 
 -- .. "and for four such channels)".
 pub channels-small :
     (ks : List Kernel) → length ks ≤ 4 → (l : List (List ℤ)) → All (InRanges ks) l → (m : ℕ) →
-    Within (cost (channels ks) l) 16384000000000000 m 0 (length l)
+    Within (cost (channels ks) l) (4 * mostUnits) m 0 (length l)
 channels-small ks few l =
     cost-most (law-channels ks) (InRanges ks) 4000000000000 (λ x p. omega (arith, owns-le ks x p)) l
 
 pub channels-fit :
     (ks : List Kernel) → length ks ≤ 4 → (l : List (List ℤ)) → All (InRanges ks) l → length l ≤ 400 →
-    (m d t : ℕ) (c : List ℕ) → cutting.Cutting m 0 d t c → t ≤ length l → cutting.cost (cost (channels ks) l) t c < 9223372036854775808
+    (m d t : ℕ) (c : List ℕ) → cutting.Cutting m 0 d t c → t ≤ length l → cutting.cost (cost (channels ks) l) t c < 2 ^ 63
 channels-fit ks few l p n m d t c g upto =
     omega (
       arith,
-      cuttings.cost-within (cost (channels ks) l) 16384000000000000 m 0 (length l) (channels-small ks few l p m) d t c g upto,
+      cuttings.cost-within (cost (channels ks) l) (4 * mostUnits) m 0 (length l) (channels-small ks few l p m) d t c g upto,
     )
 
 -- What keeps each channel's distance keeps every segment's cost.
@@ -184,18 +184,18 @@ module _ (k : Kernel) (l : List ℤ) (n : length l ≤ 400) (m : ℕ) (one : 1 �
   -- "So 4,096 times the true cost is at least the cost in units and less than that cost plus D."
   pub rounding :
       (d t : ℕ) (c : List ℕ) → cutting.Cutting m 0 d t c → t ≤ length l →
-      (lcm400 * cutting.cost (cost (kernel k) l) t c ≤ 4096 * cutting.cost (trueCost (kernel k) l) t c)
-      × (4096 * cutting.cost (trueCost (kernel k) l) t c < lcm400 * (cutting.cost (cost (kernel k) l) t c + d))
+      (lcm400 * cutting.cost (cost (kernel k) l) t c ≤ perOne * cutting.cost (trueCost (kernel k) l) t c)
+      × (perOne * cutting.cost (trueCost (kernel k) l) t c < lcm400 * (cutting.cost (cost (kernel k) l) t c + d))
   rounding =
-      cuttings.rounding (trueCost (kernel k) l) (cost (kernel k) l) 4096 lcm400 m 0 (length l) (rounds (kernel k) l n m one)
+      cuttings.rounding (trueCost (kernel k) l) (cost (kernel k) l) perOne lcm400 m 0 (length l) (rounds (kernel k) l n m one)
 
   -- "the chosen cutting's true cost exceeds the smallest true cost in D segments by less than D/4,096"
   pub near :
       (d t : ℕ) → 1 ≤ d → d * m ≤ t → t ≤ length l → (c : List ℕ) → cutting.Cutting m 0 d t c →
-      4096 * cutting.cost (trueCost (kernel k) l) t (chosenIn (cost (kernel k) l) m 0 d t)
-      < 4096 * cutting.cost (trueCost (kernel k) l) t c + d * lcm400
+      perOne * cutting.cost (trueCost (kernel k) l) t (chosenIn (cost (kernel k) l) m 0 d t)
+      < perOne * cutting.cost (trueCost (kernel k) l) t c + d * lcm400
   near d t h fits =
-      cuttings.near (trueCost (kernel k) l) (cost (kernel k) l) 4096 lcm400 m 0 (length l) (rounds (kernel k) l n m one) d t h
+      cuttings.near (trueCost (kernel k) l) (cost (kernel k) l) perOne lcm400 m 0 (length l) (rounds (kernel k) l n m one) d t h
       (omega arith)
 
 -- "Rounding the whole cutting's cost once in place of each segment's" is another cost: 0 0 1 twice, cut in the middle,
@@ -205,6 +205,6 @@ twice = pos 0 ∷ pos 0 ∷ pos 1 ∷ pos 0 ∷ pos 0 ∷ pos 1 ∷ []
 
 pub rounded-each :
     cutting.cost (cost (kernel Linear) twice) 6 (0 ∷ 3 ∷ []) + 1
-    ≡ 4096 * cutting.cost (trueCost (kernel Linear) twice) 6 (0 ∷ 3 ∷ []) / lcm400
+    ≡ perOne * cutting.cost (trueCost (kernel Linear) twice) 6 (0 ∷ 3 ∷ []) / lcm400
 unfolding twice units exact A B R kernel lcm400 lcmTo lcm gcd euclid
 rounded-each = refl

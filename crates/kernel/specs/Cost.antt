@@ -4,6 +4,7 @@ use mathlib.Core.List.{List, [], _∷_}
 use Prim.Native.Nat.{ℕ, _*_, _/_}
 use lib.ListN.{length}
 use lib.Seq.{slice}
+use Rattle.sample.specs.Level.{largest}
 use lib.IntN.{ℤ, pos, natAbs, _+ℤ_, _-ℤ_, _*ℤ_}
 
 -- the sum of f over a list
@@ -22,8 +23,15 @@ unfoldable pub R : {S : Type 0} → (S → S → ℤ) → List S → ℤ
 R k l = pos (length l) *ℤ A k l -ℤ B k l
 
 -- "The cost in units is 4,096 times R divided by m, rounded down."
+abbrev pub perOne : ℕ
+perOne = 4096
+
 abbrev pub unitsOf : ℕ → ℕ → ℕ
-unitsOf r m = 4096 * r / m
+unitsOf r m = perOne * r / m
+
+-- how many units an observation adds to a cost at most
+abbrev pub mostUnits : ℕ
+mostUnits = perOne * (largest * largest)
 
 -- R is never negative, so its magnitude is R.
 unfoldable pub units : {S : Type 0} → (S → S → ℤ) → List S → ℕ

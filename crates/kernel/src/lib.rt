@@ -1,9 +1,14 @@
 // The kernels in code: which one a number names, the distance of two samples, and a segment's cost in units.
 
 ghost use mathlib.Core.Path.{_≡_};
-ghost use Prim.Native.Nat.{_≤_, _<_};
+ghost use Prim.Native.Nat.{_^_, _≤_, _<_};
+ghost use Rattle.cutting.specs.Limits.{mostObservations};
+ghost use Rattle.sample.specs.Level.{largestLevel};
 ghost use Rattle.kernel.specs.Kernel.{dist, far, namedOf};
 ghost use Rattle.kernel.specs.Cost.{unitsOf};
+
+// So many units are one of R/m.
+const UNITS: u64 = 4096;
 
 pub enum Kernel {
     Linear,
@@ -42,7 +47,7 @@ fn apart(u: u64, v: u64) -> u64
 
 // The distance of two samples, each given by its level.
 pub fn distance(k: Kernel, u: u64, v: u64) -> u64
-    requires { ⌜ (u ≤ 2000000) × (v ≤ 2000000) ⌝ }
+    requires { ⌜ (u ≤ largestLevel) × (v ≤ largestLevel) ⌝ }
     ensures { λ r. ⌜ r ≡ dist k (far u v) ⌝ }
 {
     match k {
@@ -57,8 +62,8 @@ pub fn distance(k: Kernel, u: u64, v: u64) -> u64
 
 // 4,096 times r divided by m, rounded down, with no product past 64 bits.
 pub fn units(r: u64, m: u64) -> u64
-    requires { ⌜ (0 < m) × (m ≤ 400) × (unitsOf r m < 9223372036854775808) ⌝ }
+    requires { ⌜ (0 < m) × (m ≤ mostObservations) × (unitsOf r m < 2 ^ 63) ⌝ }
     ensures { λ x. ⌜ x ≡ unitsOf r m ⌝ }
 {
-    4096 * (r / m) + 4096 * (r % m) / m
+    UNITS * (r / m) + UNITS * (r % m) / m
 }

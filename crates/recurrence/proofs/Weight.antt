@@ -8,7 +8,7 @@ use mathlib.Core.List.{List, [], _∷_}
 use lib.ListN.{length, getD}
 use lib.Seq.{slice, slice-cons, length-slice}
 use Rattle.cutting.specs.Costs.{Within}
-use Rattle.cutting.specs.Limits.{largestLevel}
+use Rattle.sample.specs.Level.{largestLevel}
 use Rattle.kernel.specs.declared.Kernel.{Kernel}
 use Rattle.kernel.specs.Kernel.{far}
 use Rattle.lists.specs.Lists.{All}

@@ -4,11 +4,12 @@ use mathlib.Core.Path.{_≡_}
 use mathlib.Core.List.{List}
 use lib.ListN.{length, getD}
 use lib.Seq.{slice}
-use Rattle.cutting.specs.Limits.{mostObservations, largestLevel}
+use Rattle.cutting.specs.Limits.{mostObservations}
+use Rattle.sample.specs.Level.{largestLevel}
 use Rattle.kernel.specs.declared.Kernel.{Kernel}
 use Rattle.kernel.specs.Kernel.{far, dist}
 use Rattle.kernel.specs.Pairs.{sum, pairs}
-use Rattle.kernel.specs.Cost.{unitsOf}
+use Rattle.kernel.specs.Cost.{perOne, unitsOf}
 
 -- every level is in range
 abbrev pub Levels : List ℕ → Type 0
@@ -49,4 +50,4 @@ abbrev pub mostTail : ℕ
 mostTail = mostObservations * mostPair
 
 abbrev pub mostEach : ℕ
-mostEach = 4096 * mostPair
+mostEach = perOne * mostPair

@@ -19,6 +19,9 @@ power t = fin false 1 (pos t)
 abbrev pub InRange : ℤ → Type 0
 InRange x = natAbs x ≤ largest
 
--- x as a level: x + 1,000,000, which is a natural number for every x in range.
+-- x as a level: x + 1,000,000, which is a natural number for every x in range, from 0 to 2,000,000.
+abbrev pub largestLevel : ℕ
+largestLevel = 2000000
+
 abbrev pub level : ℤ → ℕ
 level x = natAbs (x +ℤ pos largest)

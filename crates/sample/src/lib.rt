@@ -29,6 +29,7 @@ pub enum Judged {
     NotWhole,
 }
 
+// The whole number that a sample stands for, or why there is none.
 pub fn judge(s: Sample) -> Judged
     ensures { λ r. ⌜ r ≡ judgedOf s ⌝ }
 {
@@ -38,6 +39,7 @@ pub fn judge(s: Sample) -> Judged
     }
 }
 
+// A count stands for itself.
 fn judge_count(n: i64) -> Judged
     ensures { λ r. ⌜ r ≡ judgedCount n ⌝ }
 {
@@ -114,6 +116,7 @@ pub enum Level {
     Refused(u64),
 }
 
+// The level of a sample, or the code of its refusal.
 pub fn level_of(s: Sample) -> Level
     ensures { λ r. ⌜ r ≡ levelOf (judgedOf s) ⌝ }
 {
@@ -129,6 +132,7 @@ pub fn level_of(s: Sample) -> Level
     }
 }
 
+// x + 1,000,000.
 fn raised(x: i64) -> u64
     requires { ⌜ InRange x ⌝ }
     ensures { λ r. ⌜ r ≡ level x ⌝ }

@@ -10,7 +10,7 @@ use Rattle.report.proofs.written.hand_over.Tie as tie
 returns : tie.Need-returns
 returns c =
     let s = c .before .before .before in
-    too-short (now (s .args .text)) (s .args .len) (now (s .args .out)) (s .pre) (c .if1 .taken)
+    too-short (now (s .args .text)) (s .args .len) (now (s .args .out)) (s .pre) (omega (arith, c .if1 .taken))
 
 slice-aggregate-lay : tie.Need-slice-aggregate-lay
 slice-aggregate-lay c =
