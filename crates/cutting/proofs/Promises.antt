@@ -33,7 +33,7 @@ cost-cuts : (w : ℕ → ℕ → ℕ) (l p d t : ℕ) (c : List ℕ) (q : ByCuts
 cost-cuts w l p d t c q = ap (cost w t) (sym (q .same))
 
 module _ (w : ℕ → ℕ → ℕ) (l p d t : ℕ) where
-  -- "the least cost is at most the cost of every cutting into D segments ..
+  -- The least cost is at most the cost of every cutting into D segments ..
   pub least-below : (c : List ℕ) → Cutting l p d t c → leastIn w l p d t ≤ cost w t c
   least-below c g =
       let q = by-cuts l p d t c g in
@@ -44,7 +44,7 @@ module _ (w : ℕ → ℕ → ℕ) (l p d t : ℕ) where
         cost-cuts w l p d t c q,
       )
 
-  -- .. and the chosen cutting has it"
+  -- .. and the chosen cutting has it.
   pub chosen-cost : cost w t (chosenIn w l p d t) ≡ leastIn w l p d t
   chosen-cost = cost-order w p (chosen w l p (d - 1) t) t ∙ Least.chosen-cost w l p (d - 1) t
 
@@ -55,14 +55,14 @@ module _ (w : ℕ → ℕ → ℕ) (l p d t : ℕ) where
         let count : suc (length (chosen w l p (d - 1) t)) ≡ d = omega (arith, chosen-length w l p (d - 1) t) in
         rw count at (to-cutting l p (chosen w l p (d - 1) t) t (chosen-cuts w l p (d - 1) t (omega (arith, size d l h))))
 
-    -- "the choice among equals exactly as the rules say it (last segment earliest, then the one before it, and so on) ..
+    -- The choice among equals is just as the rules say it (last segment earliest, then the one before it, and so on) ..
     pub choice : Choice w l p d t (chosenIn w l p d t)
     choice =
         let segments : suc (d - 1) ≡ d = omega arith in
         first-order w l p (d - 1) t (Cutting l p d t) (λ b. Unit {0}) (λ b g. rw segments g) (λ b g. tt)
         (chosen w l p (d - 1) t) chosen-cutting (chosen-back w l p (d - 1) t)
 
-  -- .. and that rule admits one cutting only"
+  -- .. and that rule admits one cutting only.
   pub choice-only : (b c : List ℕ) → Choice w l p d t b → Choice w l p d t c → b ≡ c
   choice-only = first-only (Cutting l p d t) (cost w t)
 
@@ -125,7 +125,7 @@ start-entry w l k t h =
 pub reading : (w : ℕ → ℕ → ℕ) (l d t : ℕ) → 1 ≤ d → d * l ≤ t → starts 0 (walk (startAt w l) (d - 1) t) ≡ chosenIn w l 0 d t
 reading w l d t h fits = ap (starts 0) (walk-starts w l (d - 1) t (omega (arith, size d l h)))
 
--- "joining": of a segments before a place and b after it, the place that makes the sum of the two least costs least
+-- Joining: of a segments before a place and b after it, the place that makes the sum of the two least costs least
 -- gives the least cost of a + b.
 pub joining :
     (w : ℕ → ℕ → ℕ) (l p a b t : ℕ) → 1 ≤ a → 1 ≤ b → p + (a + b) * l ≤ t →
@@ -140,13 +140,13 @@ joining w l p a b t ha hb fits =
       attained = omega (arith, q .attained);
     }
 
--- "reversal": the mirror image of n observations has the same least costs, part by part: that of p .. t-1 is n-t .. n-p-1.
+-- Reversal: the mirror image of n observations has the same least costs, part by part: that of p .. t-1 is n-t .. n-p-1.
 pub reversal :
     (w : ℕ → ℕ → ℕ) (l p d t n : ℕ) → 1 ≤ d → p + d * l ≤ t → t ≤ n →
     leastIn (mirror w n) l (n - t) d (n - p) ≡ leastIn w l p d t
 reversal w l p d t n h fits m = mirror-least w l p n (d - 1) t (omega (arith, size d l h)) m
 
--- "equal costs give equal results": least costs, last starts and chosen cuttings.
+-- Equal costs give equal results: least costs, last starts and chosen cuttings.
 module _ (v w : ℕ → ℕ → ℕ) (l p d t n : ℕ) (same : Agree v w l p n) (h : 1 ≤ d) (fits : p + d * l ≤ t) (m : t ≤ n) where
   pub same-least : leastIn v l p d t ≡ leastIn w l p d t
   same-least = least-same v w l p n same (d - 1) t (omega (arith, size d l h)) m
@@ -157,7 +157,7 @@ module _ (v w : ℕ → ℕ → ℕ) (l p d t n : ℕ) (same : Agree v w l p n) 
   pub same-chosen : chosenIn v l p d t ≡ chosenIn w l p d t
   same-chosen = ap (starts p) (chosen-same v w l p n same (d - 1) t (omega (arith, size d l h)) m)
 
--- "a cost rounded down by segment is off the truth by less than one unit a segment ..
+-- A cost rounded down by segment is off the truth by less than one unit a segment ..
 module _ (v w : ℕ → ℕ → ℕ) (u m l p n : ℕ) (r : Rounds v w u m l p n) where
   pub rounding :
       (d t : ℕ) (c : List ℕ) → Cutting l p d t c → t ≤ n →
@@ -172,7 +172,7 @@ module _ (v w : ℕ → ℕ → ℕ) (u m l p n : ℕ) (r : Rounds v w u m l p n
         cost-rounds v w u m l p n r (q .back) t (q .cuts) b,
       )
 
-  -- .. so the chosen cutting's true cost exceeds any other's in D segments by less than D units"
+  -- .. so the chosen cutting's true cost exceeds any other's in D segments by less than D units.
   pub near :
       (d t : ℕ) → 1 ≤ d → p + d * l ≤ t → t ≤ n → (c : List ℕ) → Cutting l p d t c →
       u * cost v t (chosenIn w l p d t) < u * cost v t c + d * m

@@ -10,7 +10,7 @@ use Rattle.file.specs.declared.contents.Reached.{Reached}
 use Rattle.file.specs.declared.reader.Found.{Found}
 use Rattle.file.specs.Limits.{mostBytes, mostRecords, offsetBytes}
 use Rattle.file.specs.Layout.{sizeOf}
-use Rattle.file.specs.Contents.{bodiesAt, placeIn, dueIn}
+use Rattle.file.specs.Contents.{bodiesAt, filed, placeIn, dueIn, offsetIn}
 use Rattle.file.specs.Items.{itemAt}
 use Rattle.file.specs.Tries.{contentsTries}
 
@@ -37,9 +37,10 @@ pub record Roomy (c : Contents) (s : List ℕ) (start : ℕ) (out : List ℕ) : 
   pub near : start ≤ mostBytes
   pub fits : bodiesAt (c .count) ≤ length out
 
--- Record i of an accepted file: its entry, and where its body stands in the file.
+-- Record i of an accepted file: its entry, and where its body stands in the file, which is where its offset points.
 pub record Stands (r : Found) (f : List ℕ) (i : ℕ) : Type 0 where
   pub entry : r .entry ≡ itemAt f i .entry
+  pub place : r .from ≡ offsetIn (filed f) f i
   pub body : take (r .end - r .from) (drop (r .from) f) ≡ itemAt f i .body
   pub long : r .end ≡ r .from + sizeOf (r .entry)
   pub within : r .end ≤ length f

@@ -25,7 +25,7 @@ use Rattle.kernel.specs.Cost.{A, B, R, units, cost, perOne, mostUnits}
 use Rattle.kernel.specs.Kernel.{kernel, negative, numberOf, namedOf, gap, dist, Recodes}
 use Rattle.lists.specs.Lists.{All}
 use Rattle.kernel.specs.Pairs.{pairs}
-use Rattle.kernel.specs.True.{euclid, gcd, lcm, lcmTo, lcm400, exact, trueCost}
+use Rattle.kernel.specs.True.{euclid, gcd, lcm, lcmTo, lcm400, exact, trueCost, twice}
 use Rattle.kernel.proofs.Channels.{law-channels, splits-channels, dists-kept}
 use Rattle.kernel.proofs.Exact.{rounds, true-split}
 use Rattle.kernel.proofs.Features.{splits-kernel}
@@ -78,7 +78,7 @@ unequal x y = (gap-zero x y, λ e. rw e (gap-self y))
 pub never-negative : (k : Kernel) (l : List ℤ) → negative (R (kernel k) l) ≡ false
 never-negative k l = rw (pair-form k l)
 
--- "R ≤ m·A"
+-- R is at most m·A.
 pub R-most : (k : Kernel) (l : List ℤ) → natAbs (R (kernel k) l) ≤ length l * natAbs (A (kernel k) l)
 R-most k l = rw (pair-form k l, A-nat (law k) l) (R-bound (law k) l)
 
@@ -87,7 +87,7 @@ members : (l : List ℤ) → All (λ x. List·Memᴰ x l) l
 members [] = tt
 members (x ∷ l) = (List·Memᴰ·head refl, weaken (λ y m. List·Memᴰ·tail m) l (members l))
 
--- "shift, sign and recoding keep R; reversal keeps R": one whole number added to all samples, ..
+-- Shift, sign and recoding keep R, and so does reversal: one whole number added to all samples, ..
 pub R-shift : (k : Kernel) (c : ℤ) (l : List ℤ) → R (kernel k) (map (λ x. x +ℤ c) l) ≡ R (kernel k) l
 R-shift k c l = R-kept (law k) (law k) (λ x. Unit {0}) (λ x. x +ℤ c) (shift-kept k c) l (every (λ x. tt) l)
 
@@ -124,7 +124,7 @@ pub cost-reverse :
 cost-reverse k = Segment.cost-reverse (kernel k)
 
 -- ---- bounds
--- "its bound on totals (below 2⁶³ for 400 samples of at most 1,000,000 ..": no segment costs more than 4,096 · 10¹²
+-- The bound on totals, below 2⁶³ for 400 samples of at most 1,000,000: no segment costs more than 4,096 · 10¹²
 -- units for each observation, ..
 pub cost-small : (k : Kernel) (l : List ℤ) → All InRange l → (m : ℕ) → Within (cost (kernel k) l) mostUnits m 0 (length l)
 cost-small k l = cost-most (law k) InRange 1000000000000 (own-le k) l
@@ -136,7 +136,7 @@ pub total-fits :
 total-fits k l p n m d t c g upto =
     omega (arith, cuttings.cost-within (cost (kernel k) l) mostUnits m 0 (length l) (cost-small k l p m) d t c g upto)
 
--- .. "and for four such channels)".
+-- .. and so it is for four such channels.
 pub channels-small :
     (ks : List Kernel) → length ks ≤ 4 → (l : List (List ℤ)) → All (InRanges ks) l → (m : ℕ) →
     Within (cost (channels ks) l) (4 * mostUnits) m 0 (length l)
@@ -159,7 +159,7 @@ pub channels-kept :
 channels-kept ks fs h l =
     cost-kept (law-channels ks) (law-channels ks) (λ x. Unit {0}) (each fs) (λ x y p q. dists-kept ks fs h x y) l (every (λ x. tt) l)
 
--- "splitting a segment never costs more", in units and in true costs
+-- Splitting a segment never costs more, in units and in true costs
 pub split : (k : Kernel) (l : List ℤ) → All InRange l → Splittable (cost (kernel k) l) 0 (length l)
 split k = cost-split (law k) InRange (splits-kernel k)
 
@@ -200,11 +200,8 @@ module _ (k : Kernel) (l : List ℤ) (n : length l ≤ 400) (m : ℕ) (one : 1 �
 
 -- "Rounding the whole cutting's cost once in place of each segment's" is another cost: 0 0 1 twice, cut in the middle,
 -- costs twice 2,730 units, and 4,096 times its true cost, rounded down once, is one unit more.
-pub twice : List ℤ
-twice = pos 0 ∷ pos 0 ∷ pos 1 ∷ pos 0 ∷ pos 0 ∷ pos 1 ∷ []
-
 pub rounded-each :
     cutting.cost (cost (kernel Linear) twice) 6 (0 ∷ 3 ∷ []) + 1
     ≡ perOne * cutting.cost (trueCost (kernel Linear) twice) 6 (0 ∷ 3 ∷ []) / lcm400
-unfolding twice units exact A B R kernel lcm400 lcmTo lcm gcd euclid
+unfolding units exact A B R kernel lcm400 lcmTo lcm gcd euclid
 rounded-each = refl

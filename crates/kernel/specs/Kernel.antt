@@ -66,7 +66,7 @@ dist Linear g = g * g
 dist Spelling g = cond (eqb g 0) 0 2
 dist Energy g = g
 
--- "any recoding that keeps equal equal and unequal unequal", among the samples of a list: what a map does to equal
+-- A recoding keeps equal equal and unequal unequal among the samples of a list: what a map does to equal
 -- samples is equal anyway
 abbrev pub Recodes : (ℤ → ℤ) → List ℤ → Type 0
 Recodes f l = (x y : ℤ) → List·Memᴰ x l → List·Memᴰ y l → f x ≡ f y → x ≡ y

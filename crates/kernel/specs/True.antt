@@ -1,11 +1,11 @@
 -- True costs, over whole numbers. "The true cost is R/m, summed likewise; statements about it are put over whole
 -- numbers, with every R/m taken times the least common multiple of 1 to 400."
 -- Assumes nothing.
-use mathlib.Core.List.{List}
+use mathlib.Core.List.{List, [], _∷_}
 use Prim.Native.Nat.{ℕ, zero, suc, _*_, _/_, _%_}
 use lib.ListN.{length}
 use lib.Seq.{slice}
-use lib.IntN.{ℤ, natAbs}
+use lib.IntN.{ℤ, pos, natAbs}
 use Rattle.kernel.specs.Cost.{R}
 
 -- Euclid's greatest common divisor, in at most n steps
@@ -36,3 +36,7 @@ exact k l = natAbs (R k l) * (lcm400 / length l)
 -- the true cost of a record's observations s .. t-1, times the multiple
 abbrev pub trueCost : {S : Type 0} → (S → S → ℤ) → List S → ℕ → ℕ → ℕ
 trueCost k l s t = exact k (slice s t l)
+
+-- a record whose cost tells rounding each segment from rounding once: 0 0 1, twice
+abbrev pub twice : List ℤ
+twice = pos 0 ∷ pos 0 ∷ pos 1 ∷ pos 0 ∷ pos 0 ∷ pos 1 ∷ []

@@ -10,7 +10,7 @@ use Rattle.text.specs.Text.{Put, decimal}
 use Rattle.text.proofs.Pieces.{decimal-length}
 use Rattle.segment.specs.Date.{dateIn}
 use Rattle.report.specs.declared.line.Line.{Line}
-use Rattle.report.specs.Limits.{replyLength, headLength, fileLength, cutLength, cutsLength, lineLength}
+use Rattle.report.specs.Limits.{replyLength, headLength, fileLineLength, cutLength, cutsLength, lineLength}
 use Rattle.report.specs.Lines.{codeWord, placeWord, termWord, fileWord, replyText, headText, fileText, cutText, cutsText, lineText}
 
 -- two texts, one behind the other
@@ -29,7 +29,7 @@ head-length term r =
     both termWord (decimal term ++ replyText r) 5 74 (omega arith)
     (both (decimal term) (replyText r) 20 54 (decimal-length term) (reply-length r))
 
-pub file-length : (r : Reply) → length (fileText r) ≤ fileLength
+pub file-length : (r : Reply) → length (fileText r) ≤ fileLineLength
 file-length r = both fileWord (replyText r) 4 54 (omega arith) (reply-length r)
 
 pub cut-length : (body : List ℕ) (s : ℕ) → length (cutText body s) ≤ cutLength

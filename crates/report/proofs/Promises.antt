@@ -11,6 +11,7 @@ use Rattle.cutting.specs.Recurrence.{earliest, place, least, last, walk}
 use Rattle.kernel.specs.Kernel.{kernel, namedOf}
 use Rattle.kernel.specs.Cost.{A, B, R, units}
 use Rattle.sample.specs.Judge.{judgedCount}
+use Rattle.reply.specs.declared.Reply.{Reply}
 use Rattle.reply.specs.Reply.{ifDone}
 use Rattle.reply.specs.Tries.{firstFrom, firstOf}
 use Rattle.lists.specs.Lists.{valuesOf}
@@ -28,10 +29,11 @@ use Rattle.file.specs.Tries.{readTries, readReply}
 use Rattle.file.specs.Items.{Item, noItem, paired, itemsOf, itemAt}
 use Rattle.file.proofs.Promises.{items-count}
 use Rattle.report.specs.Example.{exampleText}
-use Rattle.report.specs.Limits.{linesLength}
+use Rattle.report.specs.Limits.{linesLength, fileLineLength}
 use Rattle.report.specs.Lines.{headText, fileText, cutLines, termReply, linesOf, itemText}
 use Rattle.report.specs.Printed.{textOf, printed, textTo}
 use Rattle.report.specs.Written.{writtenNumber, writtenBytes, writtenOf, outLeft}
+use Rattle.report.proofs.Lengths.{file-length}
 use Rattle.report.proofs.Solved as solved
 
 -- ---- one term
@@ -78,6 +80,10 @@ pub printed-refused : (f : List ℕ) → (readReply f .code ≡ 0 → ⊥) → p
 unfolding printed
 printed-refused f h = if-refused (readReply f) _ _ h
 
+-- which is no longer than this.
+pub refused-length : (r : Reply) → length (fileText r) ≤ fileLineLength
+refused-length = file-length
+
 -- An accepted file prints its terms' lines, in order.
 pub printed-terms : (f : List ℕ) → readReply f .code ≡ 0 → printed f ≡ textOf (itemsOf f)
 unfolding printed
@@ -95,7 +101,7 @@ pub refused-alone :
 unfolding textOf
 refused-alone xs x ys h = text-append xs (x ∷ ys) ∙ ap (λ (t : List ℕ). textOf xs ++ (t ++ textOf ys)) (refused-line x h)
 
--- The program's loop over the records, each by its index, prints just that.
+-- Record after record, each by its index, is the same text: so the program's loop goes.
 text-to : (f : List ℕ) (k : ℕ) → k ≤ length (itemsOf f) → textTo f k ≡ textOf (take k (itemsOf f))
 unfolding textTo textOf
 text-to f zero h = refl

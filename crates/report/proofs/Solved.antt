@@ -85,7 +85,7 @@ module _ (asked : Asked) (body : List ℕ) where
   either d true h = omega (arith, cut-lines-length d (h refl), h refl)
   either d false h = omega arith
 
-  -- "how large it must be at most": all lines of a term fit 6,127 bytes
+  -- How large a buffer must be at most: all lines of a term fit 6,127 bytes
   pub lines-length : (term : ℕ) → length (linesOf term asked body) ≤ linesLength
   unfolding linesOf ifDone
   lines-length term =

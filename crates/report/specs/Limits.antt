@@ -1,5 +1,5 @@
 -- How long the texts are at most, and how much room is made for them.
-use Prim.Native.Nat.{ℕ, _+_, _*_}
+use Prim.Native.Nat.{ℕ, _+_, _-_, _*_}
 use Rattle.cutting.specs.Limits.{mostObservations, mostSegments, costBytes, startBytes}
 
 -- a decimal number of 64 bits
@@ -8,23 +8,23 @@ numberLength = 20
 
 -- a cut: a space, an index, a colon, a date; the cuts of all segments but the first; a line: the count, a space, the cost, the cuts, the line's end
 abbrev pub cutLength : ℕ
-cutLength = 42
+cutLength = 1 + numberLength + 1 + numberLength
 
 abbrev pub cutsLength : ℕ
-cutsLength = 462
+cutsLength = cutLength * (mostSegments - 1)
 
 abbrev pub lineLength : ℕ
-lineLength = 504
+lineLength = numberLength + 1 + numberLength + cutsLength + 1
 
 -- a reply's code and place to the line's end; a term's first line; the line of a refused file
 abbrev pub replyLength : ℕ
-replyLength = 54
+replyLength = 6 + numberLength + 7 + numberLength + 1
 
 abbrev pub headLength : ℕ
-headLength = 79
+headLength = 5 + numberLength + replyLength
 
-abbrev pub fileLength : ℕ
-fileLength = 58
+abbrev pub fileLineLength : ℕ
+fileLineLength = 4 + replyLength
 
 -- all lines of a term
 abbrev pub linesLength : ℕ

@@ -3,5 +3,6 @@ mod Scaled
 mod Whole
 mod Product
 mod Nan
+mod Reasons
 pub mod Range
 pub mod Promises

@@ -13,7 +13,7 @@ use Rattle.sample.specs.declared.Sample.the-variants.{Count, Share}
 use Rattle.sample.specs.declared.Judged.{Judged}
 use Rattle.sample.specs.declared.Judged.the-variants.{Whole, NotFinite, OutOfRange, NotWhole}
 use Rattle.sample.specs.Judge.{signed, judgedRatio, judgedShare, judgedCount, judgedOf}
-use Rattle.sample.specs.Level.{InRange, level}
+use Rattle.sample.specs.Level.{largest, scale, InRange, largestLevel, level}
 
 -- ---- what is judged whole is in range
 
@@ -23,23 +23,23 @@ WithinRange NotFinite = Unit
 WithinRange OutOfRange = Unit
 WithinRange NotWhole = Unit
 
-signed-in : (s : Bool) (n : ℕ) → n ≤ 1000000 → InRange (signed s n)
+signed-in : (s : Bool) (n : ℕ) → n ≤ largest → InRange (signed s n)
 signed-in false n h = h
 signed-in true zero h = h
 signed-in true (suc n) h = h
 
 ratio-within : (s : Bool) (a c : ℕ) → WithinRange (judgedRatio s a c)
 unfolding judgedRatio
-ratio-within s a c = go (ltb (1000000 * c) a) (eqb (a % c) 0) refl
+ratio-within s a c = go (ltb (largest * c) a) (eqb (a % c) 0) refl
   where
-    go : (p q : Bool) → ltb (1000000 * c) a ≡ p → WithinRange (cond p OutOfRange (cond q (Whole (signed s (a / c))) NotWhole))
+    go : (p q : Bool) → ltb (largest * c) a ≡ p → WithinRange (cond p OutOfRange (cond q (Whole (signed s (a / c))) NotWhole))
     go true q e = tt
     go false false e = tt
-    go false true e = signed-in s (a / c) (div-le-of-le-mul c (le-trans (ltb-false (1000000 * c) a e) (le-of-eq (mul-comm 1000000 c))))
+    go false true e = signed-in s (a / c) (div-le-of-le-mul c (le-trans (ltb-false (largest * c) a e) (le-of-eq (mul-comm largest c))))
 
 count-within : (n : ℤ) → WithinRange (judgedCount n)
 unfolding judgedCount
-count-within n = go (leb (natAbs n) 1000000) (leb→le (natAbs n) 1000000)
+count-within n = go (leb (natAbs n) largest) (leb→le (natAbs n) largest)
   where
     go : (p : Bool) → (T p → InRange n) → WithinRange (cond p (Whole n) OutOfRange)
     go true h = h tt
@@ -50,17 +50,17 @@ unfolding judgedShare
 judged-within (Count n) = count-within n
 judged-within (Share nan) = tt
 judged-within (Share (inf s)) = tt
-judged-within (Share (fin s m e)) = ratio-within s (m * up e * 65536) (down e)
+judged-within (Share (fin s m e)) = ratio-within s (m * up e * scale) (down e)
 
 pub whole-in-range : (s : Sample) (x : ℤ) → judgedOf s ≡ Whole x → InRange x
 whole-in-range s x e = subst WithinRange e (judged-within s)
 
 -- ---- x + 1,000,000
 
-pub level-is : (x : ℤ) → InRange x → x +ℤ pos 1000000 ≡ pos (level x)
+pub level-is : (x : ℤ) → InRange x → x +ℤ pos largest ≡ pos (level x)
 level-is (pos n) h = refl
-level-is (negsuc n) h = rw (le-ltb 1000000 (suc n) h)
+level-is (negsuc n) h = rw (le-ltb largest (suc n) h)
 
-pub level-le : (x : ℤ) → InRange x → level x ≤ 2000000
+pub level-le : (x : ℤ) → InRange x → level x ≤ largestLevel
 level-le (pos n) h = omega arith
-level-le (negsuc n) h = rw (le-ltb 1000000 (suc n) h) (omega arith)
+level-le (negsuc n) h = rw (le-ltb largest (suc n) h) (omega arith)

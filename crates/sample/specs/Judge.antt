@@ -1,6 +1,7 @@
 -- What a sample is judged to be: the whole number x that it stands for, or why there is none.
 -- A finite share `fin s m e` is the number m * 2 ^ e, negative where s is true (`lib.Ieee`); 2 ^ e is the fraction up e / down e. No floating operation is used.
-use Prim.Native.Nat.{ℕ, _*_, _/_, _%_}
+use Prim.Native.Nat.{ℕ, _*_, _/_, _%_, _≤_, _<_}
+use mathlib.Core.Path.{_≡_}
 use mathlib.Core.Bool.{Bool, cond}
 use lib.Dec.{ltb, leb, eqb}
 use lib.IntN.{ℤ, pos, negℤ, natAbs}
@@ -33,3 +34,24 @@ judgedCount n = cond (leb (natAbs n) largest) (Whole n) OutOfRange
 abbrev pub judgedOf : Sample → Judged
 judgedOf (Count n) = judgedCount n
 judgedOf (Share v) = judgedShare v
+
+-- The reasons of the refusals: "9: share NaN or infinite",
+abbrev pub NanOrInfinite : Sample → Type 0
+NanOrInfinite (Count n) = ⊥
+NanOrInfinite (Share nan) = Unit {0}
+NanOrInfinite (Share (inf s)) = Unit {0}
+NanOrInfinite (Share (fin s m e)) = ⊥
+
+-- "10: sample out of range",
+abbrev pub Outside : Sample → Type 0
+Outside (Count n) = largest < natAbs n
+Outside (Share nan) = ⊥
+Outside (Share (inf s)) = ⊥
+Outside (Share (fin s m e)) = largest * down e < m * up e * scale
+
+-- "11: share not whole after scaling", which only a share in range is tried for.
+abbrev pub Broken : Sample → Type 0
+Broken (Count n) = ⊥
+Broken (Share nan) = ⊥
+Broken (Share (inf s)) = ⊥
+Broken (Share (fin s m e)) = (m * up e * scale ≤ largest * down e) × (m * up e * scale % down e ≡ 0 → ⊥)
