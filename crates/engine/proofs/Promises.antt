@@ -39,7 +39,9 @@ module _ (asked : Asked) (body : List ℕ) (costs starts : ℕ) where
 
   -- "A refusal is given only where its stated reason holds; where none does, the reply is 0." "For a record: 3, then 1, 2, 4, 5, 6, 7, then 8 over all
   -- indices, then samples by index, where one sample is tried for 9, 10, 11." "place is the later index", "place is its index", and "0 unless stated".
-  pub solve-answered : Answered solveCodes (Placed indexCodes (observations body) mostObservations) (givenTries asked body costs starts) (solveReply asked body costs starts)
+  pub solve-answered :
+      Answered solveCodes (Placed indexCodes (observations body) mostObservations) (givenTries asked body costs starts)
+      (solveReply asked body costs starts)
   unfolding among
   solve-answered =
       let within : Within solveCodes (givenTries asked body costs starts) = search depth 20 in

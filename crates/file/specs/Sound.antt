@@ -38,7 +38,8 @@ pub record Sound (xs : List Item) : Type 0 where
   pub good : All Good xs
   pub short : fileLength xs ≤ mostBytes
 
--- ENTRIES that are regular, of a file and lent alike: term numbers rise, kinds are known, each body begins where the one before ends, and the last ends at the limit.
+-- ENTRIES that are regular, of a file and lent alike: term numbers rise, kinds are known, each body begins where the one before ends,
+-- and the last ends at the limit.
 pub record Regular (c : Contents) (s : List ℕ) : Type 0 where
   pub rising : (i : ℕ) → i + 1 < c .count → entryIn c s i .term < entryIn c s (i + 1) .term
   pub known : (i : ℕ) → i < c .count → Known (entryIn c s i)

@@ -18,6 +18,7 @@ use Rattle.kernel.proofs.Pairs as Pairs
 use Rattle.kernel.proofs.Segment as Segment
 use Rattle.kernel.proofs.Number as Number
 use Rattle.sample.specs.Level.{InRange}
+use Rattle.cutting.specs.Limits.{mostObservations}
 use Rattle.cutting.specs.Costs.{Agree, mirror, Within, Splittable}
 use Rattle.cutting.specs.Recurrence.{chosenIn}
 use Rattle.kernel.specs.Channels.{channels, InRanges, each, Keeps}
@@ -131,7 +132,7 @@ cost-small k l = cost-most (law k) InRange 1000000000000 (own-le k) l
 
 -- .. so no cutting's cost reaches 2⁶³, whatever its least length m, ..
 pub total-fits :
-    (k : Kernel) (l : List ℤ) → All InRange l → length l ≤ 400 →
+    (k : Kernel) (l : List ℤ) → All InRange l → length l ≤ mostObservations →
     (m d t : ℕ) (c : List ℕ) → cutting.Cutting m 0 d t c → t ≤ length l → cutting.cost (cost (kernel k) l) t c < 2 ^ 63
 total-fits k l p n m d t c g upto =
     omega (arith, cuttings.cost-within (cost (kernel k) l) mostUnits m 0 (length l) (cost-small k l p m) d t c g upto)
@@ -144,7 +145,7 @@ channels-small ks few l =
     cost-most (law-channels ks) (InRanges ks) 4000000000000 (λ x p. omega (arith, owns-le ks x p)) l
 
 pub channels-fit :
-    (ks : List Kernel) → length ks ≤ 4 → (l : List (List ℤ)) → All (InRanges ks) l → length l ≤ 400 →
+    (ks : List Kernel) → length ks ≤ 4 → (l : List (List ℤ)) → All (InRanges ks) l → length l ≤ mostObservations →
     (m d t : ℕ) (c : List ℕ) → cutting.Cutting m 0 d t c → t ≤ length l → cutting.cost (cost (channels ks) l) t c < 2 ^ 63
 channels-fit ks few l p n m d t c g upto =
     omega (
@@ -166,7 +167,7 @@ split k = cost-split (law k) InRange (splits-kernel k)
 pub channels-split : (ks : List Kernel) (l : List (List ℤ)) → All (InRanges ks) l → Splittable (cost (channels ks) l) 0 (length l)
 channels-split ks = cost-split (law-channels ks) (InRanges ks) (splits-channels ks)
 
-pub split-true : (k : Kernel) (l : List ℤ) → All InRange l → length l ≤ 400 → Splittable (trueCost (kernel k) l) 0 (length l)
+pub split-true : (k : Kernel) (l : List ℤ) → All InRange l → length l ≤ mostObservations → Splittable (trueCost (kernel k) l) 0 (length l)
 split-true k = true-split (law k) InRange (splits-kernel k)
 
 -- ---- true costs
@@ -180,7 +181,7 @@ least-multiple = lcm400-least
 pub multiple-positive : 0 < lcm400
 multiple-positive = lcm400-positive
 
-module _ (k : Kernel) (l : List ℤ) (n : length l ≤ 400) (m : ℕ) (one : 1 ≤ m) where
+module _ (k : Kernel) (l : List ℤ) (n : length l ≤ mostObservations) (m : ℕ) (one : 1 ≤ m) where
   -- "So 4,096 times the true cost is at least the cost in units and less than that cost plus D."
   pub rounding :
       (d t : ℕ) (c : List ℕ) → cutting.Cutting m 0 d t c → t ≤ length l →

@@ -44,7 +44,9 @@ pub same-lines :
 same-lines f g a b i j h k entry body = rw (entry, body)
 
 -- "A refused record has only its first line."
-pub refused-line : (x : Item) → (termReply (x .entry .asked) (x .body) .code ≡ 0 → ⊥) → itemText x ≡ headText (x .entry .term) (termReply (x .entry .asked) (x .body))
+pub refused-line :
+    (x : Item) → (termReply (x .entry .asked) (x .body) .code ≡ 0 → ⊥) →
+    itemText x ≡ headText (x .entry .term) (termReply (x .entry .asked) (x .body))
 unfolding linesOf
 refused-line x h =
     ap (headText (x .entry .term) (termReply (x .entry .asked) (x .body)) ++_) (if-refused (termReply (x .entry .asked) (x .body)) _ _ h)

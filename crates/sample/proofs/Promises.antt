@@ -27,7 +27,9 @@ use Rattle.sample.proofs.Range.{whole-in-range, level-is, level-le}
 
 -- "The product by 65,536 loses nothing for every share whose x is in range." The share is m * up e / down e in size, and 65,536 is 2 ^ 16:
 -- the floating product has the sign s and the size 65,536 * m * up e / down e, with no rounding.
-pub product-loses-nothing : (s : Bool) (m : ℕ) (e : ℤ) → T (fits binary64 (fin s m e)) → m * up e * scale ≤ largest * down e → HasValue (mul binary64 (fin s m e) (power 16)) s (m * up e * scale) (down e)
+pub product-loses-nothing :
+    (s : Bool) (m : ℕ) (e : ℤ) → T (fits binary64 (fin s m e)) → m * up e * scale ≤ largest * down e →
+    HasValue (mul binary64 (fin s m e) (power 16)) s (m * up e * scale) (down e)
 product-loses-nothing s m e h l = product-exact binary64 s m e 16 h (lt-of-le-of-lt l (mul-lt-mul-of-pos-right (lit< tt) (down-pos e)))
 
 -- The table of shares, with the edges: one proof, by computation.
@@ -35,7 +37,8 @@ pub shares-judged : map (λ (c : Shown). judgedOf (sampleOf 1 (c .bits))) shares
 unfolding ofBits judgedShare judgedRatio
 shares-judged = refl
 
--- "A share v becomes x = 65,536 times v, accepted only if that is whole and in range." For the finite share of the sign s and the size m * up e / down e:
+-- "A share v becomes x = 65,536 times v, accepted only if that is whole and in range."
+-- For the finite share of the sign s and the size m * up e / down e:
 module _ (s : Bool) (m : ℕ) (e : ℤ) where
   -- in range and whole it is accepted, as that number: "Both zeros become 0."
   pub share-whole : (n : ℕ) → n ≤ largest → m * up e * scale ≡ n * down e → judgedOf (Share (fin s m e)) ≡ Whole (signed s n)
@@ -43,7 +46,9 @@ module _ (s : Bool) (m : ℕ) (e : ℤ) where
   share-whole n h x = rw x (rw (le-ltb _ _ (mul-le-mul-right (down e) h), mul-mod-left n (down e), mul-div-cancel n (down-pos e)))
 
   -- "a finite share whose product is infinite is out of range"
-  pub share-overflow : (t : Bool) → T (fits binary64 (fin s m e)) → mul binary64 (fin s m e) (power 16) ≡ inf t → codeOf (judgedOf (Share (fin s m e))) ≡ 10
+  pub share-overflow :
+      (t : Bool) → T (fits binary64 (fin s m e)) → mul binary64 (fin s m e) (power 16) ≡ inf t →
+      codeOf (judgedOf (Share (fin s m e))) ≡ 10
   unfolding judgedProduct
   share-overflow t h p = ap codeOf (product-judged s m e h ∙ ap judgedProduct p)
 

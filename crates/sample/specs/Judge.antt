@@ -1,5 +1,6 @@
 -- What a sample is judged to be: the whole number x that it stands for, or why there is none.
--- A finite share `fin s m e` is the number m * 2 ^ e, negative where s is true (`lib.Ieee`); 2 ^ e is the fraction up e / down e. No floating operation is used.
+-- A finite share `fin s m e` is the number m * 2 ^ e, negative where s is true (`lib.Ieee`); 2 ^ e is the fraction up e / down e.
+-- No floating operation is used.
 use Prim.Native.Nat.{ℕ, _*_, _/_, _%_, _≤_, _<_}
 use mathlib.Core.Path.{_≡_}
 use mathlib.Core.Bool.{Bool, cond}
