@@ -29,16 +29,6 @@ pub enum Judged {
     NotWhole,
 }
 
-// The whole number that a sample stands for, or why there is none.
-pub fn judge(s: Sample) -> Judged
-    ensures { λ r. ⌜ r ≡ judgedOf s ⌝ }
-{
-    match s {
-        Sample::Count(n) => judge_count(n),
-        Sample::Share(v) => judge_share(v),
-    }
-}
-
 // A count stands for itself.
 fn judge_count(n: i64) -> Judged
     ensures { λ r. ⌜ r ≡ judgedCount n ⌝ }
@@ -77,16 +67,14 @@ fn judge_share(v: f64) -> Judged
     Judged::Whole(x as i64)
 }
 
-// The sample that 8 bytes of a body hold, as a little-endian word. Kind 0 is a count, and any other a share.
-pub fn sample_of(kind: u64, word: u64) -> Sample
-    ensures { λ r. ⌜ r ≡ sampleOf kind word ⌝ }
+// The whole number that a sample stands for, or why there is none.
+pub fn judge(s: Sample) -> Judged
+    ensures { λ r. ⌜ r ≡ judgedOf s ⌝ }
 {
-    if kind == 0 {
-        let n = count_of(word);
-        return Sample::Count(n);
+    match s {
+        Sample::Count(n) => judge_count(n),
+        Sample::Share(v) => judge_share(v),
     }
-    let v = share_of(word);
-    Sample::Share(v)
 }
 
 // The signed number of these bits, in two's complement.
@@ -110,10 +98,30 @@ fn share_of(word: u64) -> f64
     f64::from_bits(word)
 }
 
+// The sample that 8 bytes of a body hold, as a little-endian word. Kind 0 is a count, and any other a share.
+pub fn sample_of(kind: u64, word: u64) -> Sample
+    ensures { λ r. ⌜ r ≡ sampleOf kind word ⌝ }
+{
+    if kind == 0 {
+        let n = count_of(word);
+        return Sample::Count(n);
+    }
+    let v = share_of(word);
+    Sample::Share(v)
+}
+
 // A judged sample as the engine takes it: x + 1,000,000, from 0 to 2,000,000, or the reply's code.
 pub enum Level {
     At(u64),
     Refused(u64),
+}
+
+// x + 1,000,000.
+fn raised(x: i64) -> u64
+    requires { ⌜ InRange x ⌝ }
+    ensures { λ r. ⌜ r ≡ level x ⌝ }
+{
+    (x + LARGEST) as u64
 }
 
 // The level of a sample, or the code of its refusal.
@@ -130,12 +138,4 @@ pub fn level_of(s: Sample) -> Level
         Judged::OutOfRange => Level::Refused(10),
         Judged::NotWhole => Level::Refused(11),
     }
-}
-
-// x + 1,000,000.
-fn raised(x: i64) -> u64
-    requires { ⌜ InRange x ⌝ }
-    ensures { λ r. ⌜ r ≡ level x ⌝ }
-{
-    (x + LARGEST) as u64
 }
