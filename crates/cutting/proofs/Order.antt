@@ -1,12 +1,12 @@
 -- A cutting by its cuts, from the last back, is one by its segments' first indices, in order: the same segments, the
 -- same cost, and the same order among those that are compared.
 -- Assumes nothing.
-use Prim.Native.Nat.{ℕ, suc, _+_, _≤_}
+use Prim.Native.Nat.{ℕ, zero, suc, _+_, _≤_, _<_}
 use mathlib.Core.Path.{_≡_, refl, sym, ap, _∙_}
 use mathlib.Core.Logic.{inl, inr}
 use mathlib.Core.List.{List, [], _∷_, _++_, reverse, reverse-cons, reverse-reverse}
 use native.Mathlib.Omega.{arith}
-use lib.ListN.{length, length-reverse}
+use lib.ListN.{length, getD, length-reverse}
 use Rattle.cutting.specs.Cutting.{InOrder, Cutting, cost, NoLater, First}
 use Rattle.cutting.specs.Recurrence.{starts}
 use Rattle.cutting.proofs.Cuts.{Cuts, costBack}
@@ -23,6 +23,26 @@ in-order-less l t p s [] h = (h .1, h .0)
 in-order-less l t p s (r ∷ c) h =
     let q = in-order-less l t r s c (h .1) in
     (q .0, (h .0, q .1))
+
+-- each segment but the first starts behind the first, and before the end
+head-inside : (l t s : ℕ) (c : List ℕ) → 1 ≤ l → InOrder l t (s ∷ c) → s < t
+head-inside l t s [] one h = omega (arith, h)
+head-inside l t s (r ∷ c) one h = omega (arith, h .0, head-inside l t r c one (h .1))
+
+in-order-inside : (l t s : ℕ) (c : List ℕ) → 1 ≤ l → InOrder l t (s ∷ c) → (i : ℕ) → i < length c → (s < getD c i 0) × (getD c i 0 < t)
+in-order-inside l t s [] one h i b = absurd (omega arith)
+in-order-inside l t s (r ∷ c) one h zero b = (omega (arith, h .0), head-inside l t r c one (h .1))
+in-order-inside l t s (r ∷ c) one h (suc i) b =
+    let q = in-order-inside l t r c one (h .1) i (omega arith) in
+    (omega (arith, h .0, q .0), q .1)
+
+pub starts-inside :
+    (l p d t : ℕ) (c : List ℕ) → 1 ≤ l → Cutting l p d t c → (i : ℕ) → 1 ≤ i → i < d → (p < getD c i 0) × (getD c i 0 < t)
+starts-inside l p d t [] one g i a b = absurd (g .begins)
+starts-inside l p d t (s ∷ c) one g zero a b = absurd (omega arith)
+starts-inside l p d t (s ∷ c) one g (suc i) a b =
+    let q = in-order-inside l t s c one (g .segments) i (omega (arith, g .count)) in
+    (omega (arith, g .begins, q .0), q .1)
 
 to-order : (l p : ℕ) (c : List ℕ) (t : ℕ) → Cuts l p t c → InOrder l t (starts p c)
 to-order l p [] t h = h

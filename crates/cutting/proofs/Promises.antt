@@ -6,8 +6,9 @@ use mathlib.Core.Logic.{_↔_}
 use mathlib.Core.List.{List, [], _∷_, _++_, reverse-cons}
 use native.Mathlib.Nat.{mul-le-mul-left}
 use native.Mathlib.Omega.{arith}
-use lib.ListN.{length}
+use lib.ListN.{length, getD}
 use Rattle.cutting.proofs.Least as Least
+use Rattle.cutting.proofs.Order as Order
 use Rattle.cutting.specs.Costs.{Agree, mirror, Rounds, Within, Splittable, forced}
 use Rattle.cutting.specs.Cutting.{Cutting, cost, Choice, StartsAt, ChoiceAt, LeastOf}
 use Rattle.cutting.specs.Recurrence.{room, least, last, walk, chosen, starts, leastIn, chosenIn}
@@ -65,6 +66,11 @@ module _ (w : ℕ → ℕ → ℕ) (l p d t : ℕ) where
   -- .. and that rule admits one cutting only.
   pub choice-only : (b c : List ℕ) → Choice w l p d t b → Choice w l p d t c → b ≡ c
   choice-only = first-only (Cutting l p d t) (cost w t)
+
+-- Where no segment is empty, each but the first starts behind the run's first observation, and before its end.
+pub starts-inside :
+    (l p d t : ℕ) (c : List ℕ) → 1 ≤ l → Cutting l p d t c → (i : ℕ) → 1 ≤ i → i < d → (p < getD c i 0) × (getD c i 0 < t)
+starts-inside = Order.starts-inside
 
 -- A cutting into d segments exists exactly where there are l observations for each of them.
 pub cutting-exists : (l p d t : ℕ) → 1 ≤ d → ((c : List ℕ) × Cutting l p d t c) ↔ (p + d * l ≤ t)

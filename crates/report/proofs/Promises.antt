@@ -1,5 +1,5 @@
 -- What is promised of the lines, and of what the program prints. Assumes nothing.
-use Prim.Native.Nat.{ℕ, zero, suc, _+_, _<_, _≤_}
+use Prim.Native.Nat.{ℕ, zero, suc, _+_, _*_, _<_, _≤_}
 use mathlib.Core.Path.{_≡_, refl, sym, ap, _∙_}
 use mathlib.Core.List.{List, [], _∷_, _++_, append-assoc, append-nil}
 use native.Mathlib.Omega.{arith}
@@ -15,8 +15,12 @@ use Rattle.reply.specs.declared.Reply.{Reply}
 use Rattle.reply.specs.Reply.{ifDone}
 use Rattle.reply.specs.Tries.{firstFrom, firstOf}
 use Rattle.lists.specs.Lists.{valuesOf}
-use Rattle.record.specs.Body.{dayAt, judgedAt}
-use Rattle.segment.specs.Date.{dateIn}
+use Rattle.record.specs.Body.{observations, dayAt, judgedAt}
+use Rattle.record.specs.Cost.{costOf, shortest, chosenOf}
+use Rattle.segment.specs.Date.{dateIn, daysOf, datedOf, DateAccepted}
+use Rattle.segment.proofs.Promises.{body-dated, date-of-body}
+use Rattle.cutting.proofs.Promises.{chosen-cutting, starts-inside}
+use Rattle.engine.proofs.Promises.{solve-accepted}
 use Rattle.engine.specs.Total.{some}
 use Rattle.engine.specs.Solve.{solveReply}
 use Rattle.text.specs.Text.{digits}
@@ -29,7 +33,7 @@ use Rattle.file.specs.Tries.{readTries, readReply}
 use Rattle.file.specs.Items.{Item, noItem, paired, itemsOf, itemAt}
 use Rattle.file.proofs.Promises.{items-count}
 use Rattle.report.specs.Example.{exampleText}
-use Rattle.report.specs.Limits.{linesLength, fileLineLength}
+use Rattle.report.specs.Limits.{linesLength, fileLineLength, costRoom, startRoom}
 use Rattle.report.specs.Lines.{headText, fileText, cutLines, termReply, linesOf, itemText}
 use Rattle.report.specs.Printed.{textOf, printed, textTo}
 use Rattle.report.specs.Written.{writtenNumber, writtenBytes, writtenOf, outLeft}
@@ -51,6 +55,24 @@ unfolding linesOf
 refused-line x h =
     ap (headText (x .entry .term) (termReply (x .entry .asked) (x .body)) ++_) (if-refused (termReply (x .entry .asked) (x .body)) _ _ h)
     ∙ append-nil _
+
+-- "for each segment after the first its first index, a colon and its change date": every cut of an accepted record has a change date, the one printed.
+module _ (x : Item) (accepted : termReply (x .entry .asked) (x .body) .code ≡ 0) where
+  pub cut-dated :
+      (D i : ℕ) → D ≤ x .entry .asked .dmax → 1 ≤ i → i < D → (s : ℕ) →
+      s ≡ getD (chosenOf (x .entry .asked) (x .body) D (observations (x .body))) i 0 →
+      DateAccepted (daysOf (x .body)) s × (dateIn (x .body) s ≡ datedOf (daysOf (x .body)) s .day .0)
+  cut-dated D i few later below s e =
+      let a = solve-accepted (x .entry .asked) (x .body) costRoom startRoom .0 accepted in
+      let n = observations (x .body) in
+      let w = costOf (x .entry .asked) (x .body) in
+      let l = shortest (x .entry .asked) in
+      let fits : 0 + D * l ≤ n = omega (arith, a .fit .segments .fits-days) in
+      let cutting = chosen-cutting w l 0 D n (omega arith) fits in
+      let inside = starts-inside l 0 D n _ (omega arith) cutting i later below in (
+        body-dated (x .body) (a .fit .count) (a .rising) s (omega (arith, e, inside .0)) (omega (arith, e, inside .1)),
+        date-of-body (x .body) (a .fit .count) (a .rising) s,
+      )
 
 -- How large a buffer they need at most.
 pub lines-length : (x : Item) → length (itemText x) ≤ linesLength
