@@ -1,17 +1,22 @@
 /*
- * cuts_of_file.c: prints the cuts of a record file through the C functions, line for
- * line as the program `cuts` does.
+ * cuts_of_file.c: prints the cuts of a record file through the C functions, as
+ * `./cuts` does.
  *
- *   cuts_of_file [FILE]     without FILE it reads standard input
+ *   cuts_of_file [FILE]     without FILE, or for -, it reads standard input
  *
  * For every record it prints the term, the reply's code and place, then for every
  * count of segments the least cost in units and, for each segment after the first,
- * its first index and its change date.
+ * its first index and its change date. A refusal is also told in a sentence on
+ * standard error.
  */
 #include "tawinrak.h"
 
 #include <inttypes.h>
 #include <stdio.h>
+#include <string.h>
+
+/* What the program ends with. */
+enum { ALL_DONE = 0, TERM_REFUSED = 1, FILE_REFUSED = 2, NOT_ANSWERED = 3 };
 
 /* One record of a file: the fields of its entry, and its body. */
 typedef struct {
@@ -50,13 +55,23 @@ static uint64_t day_at(const Record *record, unsigned index)
     return number_at(record->body + TAWINRAK_OBSERVATION_BYTES * index, 4);
 }
 
-/* The first day of the new level: halfway from the last day before, rounded down. */
+/* Halfway between the last day before the segment and its first day, rounded down: of neighbouring days the earlier. */
 static uint64_t change_date(const Record *record, unsigned start)
 {
     return (day_at(record, start - 1) + day_at(record, start)) / 2;
 }
 
-/* Prints the line of one count of segments, off the tables that solve has filled. */
+/* Tells a refusal in words. */
+static void tell(const char *who, uint64_t reply)
+{
+    unsigned code = TAWINRAK_CODE(reply);
+    fprintf(stderr, "%s: %s", who, tawinrak_text(code));
+    if (tawinrak_counted(code)[0] != '\0')
+        fprintf(stderr, ", at %s %u", tawinrak_counted(code), TAWINRAK_PLACE(reply));
+    fprintf(stderr, " (code %u)\n", code);
+}
+
+/* Prints the line of one count of segments, off the tables that solve has filled: they always hold a walk. */
 static void print_cutting(const Record *record, unsigned count)
 {
     uint8_t cuts[TAWINRAK_STARTS_OUT_BYTES];
@@ -70,38 +85,59 @@ static void print_cutting(const Record *record, unsigned count)
     printf("\n");
 }
 
-static void print_record(const Record *record)
+static int print_record(const Record *record)
 {
+    char who[16];
     uint64_t reply = tawinrak_solve(record->body, TAWINRAK_OBSERVATION_BYTES * record->n, record->kind, record->kernel,
                                     record->dmax, costs, sizeof costs, starts, sizeof starts);
     printf("term %u code %u place %u\n", record->term, TAWINRAK_CODE(reply), TAWINRAK_PLACE(reply));
-    if (TAWINRAK_CODE(reply) != TAWINRAK_DONE)
-        return;
+    if (TAWINRAK_CODE(reply) != TAWINRAK_DONE) {
+        snprintf(who, sizeof who, "term %u", record->term);
+        tell(who, reply);
+        return TERM_REFUSED;
+    }
     for (unsigned count = 1; count <= record->dmax; count++)
         print_cutting(record, count);
+    return ALL_DONE;
 }
 
-static void print_file(size_t length)
+static int print_file(size_t length)
 {
+    int status = ALL_DONE;
     uint64_t reply = tawinrak_read_file(file, length);
     if (TAWINRAK_CODE(reply) != TAWINRAK_DONE) {
         printf("file code %u place %u\n", TAWINRAK_CODE(reply), TAWINRAK_PLACE(reply));
-        return;
+        tell("file", reply);
+        return FILE_REFUSED;
     }
     unsigned records = (unsigned)number_at(file, 2);
     for (unsigned index = 0; index < records; index++) {
         Record record = record_at(index);
-        print_record(&record);
+        if (print_record(&record) != ALL_DONE)
+            status = TERM_REFUSED;
     }
+    return status;
+}
+
+static int not_answered(const char *what)
+{
+    perror(what);
+    return NOT_ANSWERED;
 }
 
 int main(int argc, char **argv)
 {
-    FILE *input = argc > 1 ? fopen(argv[1], "rb") : stdin;
-    if (input == NULL) {
-        perror(argv[1]);
-        return 1;
+    if (argc > 2) {
+        fprintf(stderr, "usage: cuts_of_file [FILE]\n");
+        return NOT_ANSWERED;
     }
-    print_file(fread(file, 1, sizeof file, input));
-    return 0;
+    const char *name = argc > 1 ? argv[1] : "-";
+    FILE *input = strcmp(name, "-") == 0 ? stdin : fopen(name, "rb");
+    if (input == NULL)
+        return not_answered(name);
+    size_t length = fread(file, 1, sizeof file, input);
+    if (ferror(input))
+        return not_answered(name);
+    int status = print_file(length);
+    return fflush(stdout) == 0 && !ferror(stdout) ? status : not_answered("standard output");
 }

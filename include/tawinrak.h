@@ -5,10 +5,60 @@
  * keep no state, ask for no memory, read and write no file, and need nothing
  * from outside but memory functions (memcpy, memmove, memset, memcmp, bcmp).
  *
+ * Records
+ *   A record is up to 400 observations of one term, each a day and a sample, and
+ *   it is cut into up to 12 segments. A day is a number from 0 to 4,294,967,295,
+ *   above the day before it. It may count from anywhere: only the change dates
+ *   depend on it. Counted from 1 January 1970, as in the examples, the day of a
+ *   time_t is the time divided by 86,400, and 2026-01-01 is 20454. Days without
+ *   an observation are left out; nothing is made up for them.
+ *
+ * Samples
+ *   A sample is a whole number x from -1,000,000 to 1,000,000.
+ *   Counts are given as they are. Where they are larger, count in hundreds.
+ *   Shares are given as doubles v from about -15.26 to 15.26, and x is 65,536 * v,
+ *   which must be whole: round a share to the nearest 1/65,536 first, as with
+ *   rint(65536 * v) / 65536. Percents above 15 are out of range: divide them by 100.
+ *   Spellings are given as codes, one number for each spelling. Only whether two
+ *   codes are equal counts, so number the spellings of a record 1, 2, 3 and so on
+ *   in any order. Do not use hashes: they are out of range, and cut to fit two
+ *   spellings may share one.
+ *
+ * Costs
+ *   The cost of a segment of m observations is 4,096 * R / m, rounded down, in
+ *   units of 1/4,096. R is a sum over all pairs of two of its samples x, y:
+ *     linear    R = sum of (x - y)^2
+ *               R/m is the sum of squared distances from the segment's mean
+ *     spelling  R = 2 * (number of pairs with x and y unequal)
+ *               R/m is m less the sum of f^2/m, for f the days of each spelling
+ *     energy    R = sum of |x - y|
+ *               R/m grows with the spread as it is, not squared: one wild day
+ *               weighs less than under linear
+ *   The cost of a cutting is the sum over its segments. It is 0 where all samples
+ *   of each segment are equal, and among all cuttings into D segments the one
+ *   found has the least cost. Of several with that cost it is the one whose last
+ *   segment starts earliest, then the one before it, and so on. For shares the
+ *   cost is that of x: linear costs are 2^32 times, energy costs 2^16 times those
+ *   of v.
+ *
+ * How many segments
+ *   tawinrak_solve gives the best cutting for every count D from 1 to dmax; which
+ *   D to take is the caller's choice. The cost never rises with D: it falls much
+ *   while a further segment begins at a true jump, and little after. So ask for a
+ *   dmax of 12, and take the D where cost + D * price is least, the price being
+ *   what one more segment must save to be worth it. With the linear kernel, and
+ *   days that vary by s round their level, 12 * 4,096 * s^2 is a fair price.
+ *
+ * Change dates
+ *   Each segment but the first has a change date. With p the last day before the
+ *   segment and q its first day, it is (p + q) / 2 rounded down, a number of the
+ *   same kind as the days: q is p + 1 where no day is missing, and then it is p.
+ *
  * Slices
  *   A slice is a pointer and a length in bytes. Where the length is 0 the
  *   pointer may be NULL. No alignment is asked for. A slice that a call writes
- *   must not overlap another slice of the same call.
+ *   must not overlap another slice of the same call. Numbers in slices are
+ *   little-endian.
  *
  * Threads and stack
  *   Calls may run at the same time on any number of threads, as long as no
@@ -18,11 +68,9 @@
  * Replies
  *   Each call returns one number, code + 256 * place: TAWINRAK_CODE and
  *   TAWINRAK_PLACE take it apart. Code 0 is "done". With any other code nothing
- *   lent was written. The place is 0 unless the code's line below names another,
+ *   lent was written. The place is 0 unless TAWINRAK_REPLIES says what it counts,
  *   and counts from 0. Every input, however damaged, gets a reply. Where several
  *   codes apply, the one that the function's list names first is given.
- *
- * Numbers are little-endian in every slice.
  */
 #ifndef TAWINRAK_H
 #define TAWINRAK_H
@@ -34,33 +82,86 @@
 extern "C" {
 #endif
 
+/* The version of this header, of the archive and of the programs beside it. */
+#define TAWINRAK_VERSION "1.0"
+
 /* A reply taken apart. */
 #define TAWINRAK_CODE(reply) ((unsigned)((reply) & 255u))
 #define TAWINRAK_PLACE(reply) ((unsigned)(((reply) >> 8) & 0xFFFFFFu))
 
 /* The codes. */
-#define TAWINRAK_DONE 0u                   /* done */
-#define TAWINRAK_NO_OBSERVATIONS 1u        /* n is 0 */
-#define TAWINRAK_TOO_MANY_OBSERVATIONS 2u  /* n is above 400 */
-#define TAWINRAK_OBSERVATION_CUT_SHORT 3u  /* the body ends inside an observation */
-#define TAWINRAK_SEGMENTS_OUT_OF_RANGE 4u  /* Dmax, or the D read, is 0 or above 12 */
-#define TAWINRAK_SEGMENTS_EXCEED_N 5u      /* Dmax, or the D read, is above n */
-#define TAWINRAK_UNKNOWN_KERNEL 6u         /* the kernel is not 1, 2 or 3 */
-#define TAWINRAK_LENT_TOO_SHORT 7u         /* a lent table, or the 24 bytes for starts, is too short */
-#define TAWINRAK_DAY_NOT_ABOVE 8u          /* a day is not above the day before it; place: the later index */
-#define TAWINRAK_SHARE_NOT_FINITE 9u       /* a share is NaN or infinite; place: its index */
-#define TAWINRAK_SAMPLE_OUT_OF_RANGE 10u   /* x is not from -1,000,000 to 1,000,000; place: its index */
-#define TAWINRAK_SHARE_NOT_WHOLE 11u       /* 65,536 times a share is not whole; place: its index */
-#define TAWINRAK_TOTAL_TOO_LARGE 12u       /* a total of units passes 2^63 - 1: kept free, no input gives it */
-#define TAWINRAK_NO_WALK 13u               /* the start table holds no walk */
-#define TAWINRAK_FILE_TOO_SHORT 20u        /* too short for its count or contents; an entry is cut short */
-#define TAWINRAK_RECORD_COUNT 21u          /* the count of records is 0 or above 64 */
-#define TAWINRAK_BODY_MISPLACED 22u        /* a body starts elsewhere or passes the end; place: the entry */
-#define TAWINRAK_TERM_NOT_ABOVE 23u        /* a term is not above the entry before it; place: the entry */
-#define TAWINRAK_UNKNOWN_KIND 24u          /* the sample kind is not 0 or 1; place: the entry, 0 in solve */
-#define TAWINRAK_BYTES_LEFT_OVER 25u       /* bytes after the last body */
-#define TAWINRAK_FILE_TOO_LONG 26u         /* the file is longer than 65,536 bytes */
-#define TAWINRAK_OUTPUT_TOO_SHORT 27u      /* the lent output is too short for the file */
+#define TAWINRAK_DONE 0u
+#define TAWINRAK_NO_OBSERVATIONS 1u
+#define TAWINRAK_TOO_MANY_OBSERVATIONS 2u
+#define TAWINRAK_OBSERVATION_CUT_SHORT 3u
+#define TAWINRAK_SEGMENTS_OUT_OF_RANGE 4u
+#define TAWINRAK_SEGMENTS_EXCEED_N 5u
+#define TAWINRAK_UNKNOWN_KERNEL 6u
+#define TAWINRAK_LENT_TOO_SHORT 7u
+#define TAWINRAK_DAY_NOT_ABOVE 8u
+#define TAWINRAK_SHARE_NOT_FINITE 9u
+#define TAWINRAK_SAMPLE_OUT_OF_RANGE 10u
+#define TAWINRAK_SHARE_NOT_WHOLE 11u
+#define TAWINRAK_TOTAL_TOO_LARGE 12u /* kept free: no input gives it */
+#define TAWINRAK_NO_WALK 13u
+#define TAWINRAK_NO_STRETCH 14u /* kept free: no function of this header gives it */
+#define TAWINRAK_FILE_TOO_SHORT 20u
+#define TAWINRAK_RECORD_COUNT 21u
+#define TAWINRAK_BODY_MISPLACED 22u
+#define TAWINRAK_TERM_NOT_ABOVE 23u
+#define TAWINRAK_UNKNOWN_KIND 24u /* of tawinrak_solve its place is 0 */
+#define TAWINRAK_BYTES_LEFT_OVER 25u
+#define TAWINRAK_FILE_TOO_LONG 26u
+#define TAWINRAK_OUTPUT_TOO_SHORT 27u
+
+/* Each code, what its place counts ("" where the place is 0), and what it says. */
+#define TAWINRAK_REPLIES(REPLY) \
+    REPLY(TAWINRAK_DONE, "", "done") \
+    REPLY(TAWINRAK_NO_OBSERVATIONS, "", "there is no observation") \
+    REPLY(TAWINRAK_TOO_MANY_OBSERVATIONS, "", "there are more than 400 observations") \
+    REPLY(TAWINRAK_OBSERVATION_CUT_SHORT, "", "the body ends inside an observation") \
+    REPLY(TAWINRAK_SEGMENTS_OUT_OF_RANGE, "", "the count of segments is 0 or above 12") \
+    REPLY(TAWINRAK_SEGMENTS_EXCEED_N, "", "there are fewer observations than segments") \
+    REPLY(TAWINRAK_UNKNOWN_KERNEL, "", "the kernel is not 1, 2 or 3") \
+    REPLY(TAWINRAK_LENT_TOO_SHORT, "", "a lent table, or the lent room for starts, is too short") \
+    REPLY(TAWINRAK_DAY_NOT_ABOVE, "index", "a day is not above the day before it") \
+    REPLY(TAWINRAK_SHARE_NOT_FINITE, "index", "a share is NaN or infinite") \
+    REPLY(TAWINRAK_SAMPLE_OUT_OF_RANGE, "index", "a count, or 65,536 times a share, is not from -1,000,000 to 1,000,000") \
+    REPLY(TAWINRAK_SHARE_NOT_WHOLE, "index", "65,536 times a share is not whole") \
+    REPLY(TAWINRAK_TOTAL_TOO_LARGE, "", "a total of units is above 9,223,372,036,854,775,807") \
+    REPLY(TAWINRAK_NO_WALK, "", "the start table holds no walk") \
+    REPLY(TAWINRAK_NO_STRETCH, "", "the stretch is empty or passes the record's end, or the index has no change date") \
+    REPLY(TAWINRAK_FILE_TOO_SHORT, "", "the count of records, or the contents, are cut short") \
+    REPLY(TAWINRAK_RECORD_COUNT, "", "the count of records is 0 or above 64") \
+    REPLY(TAWINRAK_BODY_MISPLACED, "entry", "a body does not start where the one before ends, or passes the end") \
+    REPLY(TAWINRAK_TERM_NOT_ABOVE, "entry", "a term is not above the term before it") \
+    REPLY(TAWINRAK_UNKNOWN_KIND, "entry", "the sample kind is not 0 or 1") \
+    REPLY(TAWINRAK_BYTES_LEFT_OVER, "", "there are bytes after the last body") \
+    REPLY(TAWINRAK_FILE_TOO_LONG, "", "the file is longer than 65,536 bytes") \
+    REPLY(TAWINRAK_OUTPUT_TOO_SHORT, "", "the lent output is too short for the file")
+
+#define TAWINRAK_TEXT_CASE(code, counted, text) case code: return text;
+#define TAWINRAK_COUNTED_CASE(code, counted, text) case code: return counted;
+
+/* What a code says, in words. */
+static inline const char *tawinrak_text(unsigned code)
+{
+    switch (code) {
+        TAWINRAK_REPLIES(TAWINRAK_TEXT_CASE)
+    default:
+        return "no code of this version";
+    }
+}
+
+/* What the place of a code counts, "index" or "entry"; "" where the place is 0. */
+static inline const char *tawinrak_counted(unsigned code)
+{
+    switch (code) {
+        TAWINRAK_REPLIES(TAWINRAK_COUNTED_CASE)
+    default:
+        return "";
+    }
+}
 
 /* The kernels and the sample kinds. */
 #define TAWINRAK_LINEAR 1u   /* query counts and click shares: levels */
@@ -136,7 +237,8 @@ uint64_t tawinrak_read_cuts(const uint8_t *starts, size_t starts_len, uint64_t n
  * file's start 4), then the bodies in the same order without gaps, the first
  * where the contents end. Once the reply is 0, every entry's body, 12 * n bytes
  * at its offset, lies inside the file. Kernel, Dmax, n, days and samples are
- * judged by tawinrak_solve.
+ * judged by tawinrak_solve. A file has room for 14 terms with a year of days
+ * each, for 64 with 84 observations each, or for anything between.
  *
  * Writes: nothing.
  *

@@ -1,21 +1,71 @@
-# parts.sh, to be sourced where root is set: the archive and the program of this tree,
-# made by rt where they are missing or older than the crates. Nothing in the environment
-# can name others.
+# parts.sh, to be sourced where root is set and after machine.sh: the archive and the programs of
+# this tree, each made unless it stands as it was made and all that it is made of is as it was.
+# Nothing in the environment can name others.
 #
-#   need_archive  sets ARCHIVE to libtawinrak.a
-#   need_cuts     sets CUTS to the program cuts
+#   need_archive          sets ARCHIVE to libtawinrak.a
+#   need_cuts             sets CUTS to the program cuts
+#   need_example NAME     sets EXAMPLE to the program of examples/NAME.c
 
-# Whether the file is missing or older than something of the crates.
-outdated() { # FILE
-    [ ! -f "$1" ] || [ -n "$(find "$root/crates" "$root/crates.txt" -newer "$1" | head -n 1)" ]
+# One sum over the names and bytes of the files and of all files in the folders, named from root.
+sum_of() { # PATH...
+    (cd "$root" && find "$@" -type f -print0 | LC_ALL=C sort -z | xargs -0 sha256sum | sha256sum) 2>/dev/null
+}
+
+# Makes a part by a command, if need be. Its stamp is the sum of what it is made of, taken before,
+# and its own, taken after.
+make_part() { # PART SOURCES COMMAND...
+    part=$1 stamp=$root/target/made/$(basename "$1")
+    made_of=$(sum_of $2)
+    if [ -f "$stamp" ] && [ "$(cat "$stamp")" = "$made_of$(sum_of "$part")" ]; then return 0; fi
+    shift 2
+    "$@" || return
+    mkdir -p "$root/target/made" || return
+    echo "$made_of$(sum_of "$part")" >"$stamp.new" && mv "$stamp.new" "$stamp"
+}
+
+# Runs rt and keeps what it says in the log, showing it if rt fails.
+run_rt() { # LOG VERB NAME...
+    log=$1
+    shift
+    before=$(wc -c <"$log")
+    if (cd "$root" && rt "$@") </dev/null >>"$log" 2>&1; then return 0; fi
+    tail -c "+$((before + 1))" "$log" >&2
+    echo "rt $* failed; all that rt said is in $log" >&2
+    return 1
+}
+
+# Proves all that a crate is made of, a line each on standard error, then makes the crate itself.
+prove() { # VERB CRATE
+    log=$root/target/log/making-$2 at=0
+    command -v rt >/dev/null 2>&1 || { echo "rt, of the Rattle kit, is missing" >&2 && return 1; }
+    mkdir -p "$root/target/log" && : >"$log" || return
+    levels=$(awk -v crate="$2" -f "$root/tools/levels.awk" "$root/crates.txt")
+    count=$(echo "$levels" | tr , '\n' | wc -l)
+    for level in $levels; do
+        names=$(echo "$level" | tr , ' ')
+        for name in $names; do at=$((at + 1)) && echo "proving $at of $count: $name" >&2; done
+        if [ "$names" = "$2" ]; then verb=$1; else verb=check; fi
+        run_rt "$log" "$verb" $names || return
+    done
 }
 
 need_archive() {
     ARCHIVE=$root/target/staticlib/libtawinrak.a
-    if outdated "$ARCHIVE"; then (cd "$root" && rt staticlib tawinrak >&2); fi
+    make_part target/staticlib/libtawinrak.a "crates crates.txt" prove staticlib tawinrak
 }
 
 need_cuts() {
     CUTS=$root/target/bin/cuts
-    if outdated "$CUTS"; then (cd "$root" && rt check cuts >&2); fi
+    make_part target/bin/cuts "crates crates.txt" prove check cuts
+}
+
+compile_example() { # NAME
+    need_compiler && mkdir -p "$root/target/examples" || return
+    "$CC" -std=c11 -O2 -Wall -Wextra -static -I"$root/include" "$root/examples/$1.c" "$ARCHIVE" -o "$EXAMPLE"
+}
+
+need_example() { # NAME
+    EXAMPLE=$root/target/examples/$1
+    need_archive || return
+    make_part "target/examples/$1" "examples/$1.c include target/staticlib" compile_example "$1"
 }
