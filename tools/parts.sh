@@ -59,13 +59,17 @@ need_cuts() {
     make_part target/bin/cuts "crates crates.txt" prove check cuts
 }
 
-compile_example() { # NAME
-    need_compiler && mkdir -p "$root/target/examples" || return
-    "$CC" -std=c11 -O2 -Wall -Wextra -static -I"$root/include" "$root/examples/$1.c" "$ARCHIVE" -o "$EXAMPLE"
-}
+# Compiles examples/NAME.c, with what stands in examples/NAME if there is such a folder.
+compile_example() ( # NAME
+    need_compiler && mkdir -p "$root/target/examples" && cd "$root" || return
+    set -- "$1" "examples/$1.c"
+    if [ -d "examples/$1" ]; then set -- "$@" "examples/$1"/*.c; fi
+    shift
+    "$CC" -std=c11 -O2 -Wall -Wextra -static -Iinclude "$@" "$ARCHIVE" -o "$EXAMPLE"
+)
 
 need_example() { # NAME
     EXAMPLE=$root/target/examples/$1
     need_archive || return
-    make_part "target/examples/$1" "examples/$1.c include target/staticlib" compile_example "$1"
+    make_part "target/examples/$1" "examples include target/staticlib" compile_example "$1"
 }
