@@ -1,5 +1,5 @@
 # checks.sh, to be sourced by run: what is tried beside the harness's cases. Counts in
-# passed and failed. Uses root, made, rust, ARCHIVE and the programs that run has made.
+# passed and failed. Uses root, made, rust, real, ARCHIVE and the programs that run has made.
 
 passed=0 failed=0
 newline='
@@ -92,19 +92,24 @@ ended() { # STATUS
     }
 }
 
-# Runs cuts into a pipe that no one reads any more, having run the words in its shell.
-closed_pipe() { # WORDS
+# Runs words of the shell into a pipe that no one reads any more, having run other words in their
+# shell; their status and what they say are left in files.
+into_closed_pipe() { # BEFORE WORDS
     rm -f "$made/status"
     {
         sleep 0.3
         (
             eval "$1"
             status=0
-            "$made/cuts.sh" <"$made/long.record" 2>"$made/complaint" || status=$?
+            eval "$2" 2>"$made/complaint" || status=$?
             echo "$status" >"$made/status"
         )
     } | true
     while [ ! -s "$made/status" ]; do sleep 0.1; done
+}
+
+closed_pipe() { # BEFORE
+    into_closed_pipe "$1" '"$made/cuts.sh" <"$made/long.record"'
     cat "$made/complaint"
     [ ! -s "$made/complaint" ] && ended "$(cat "$made/status")"
 }
@@ -125,7 +130,6 @@ check_cuts() {
     check "cuts on an empty input" prints "file code 20 place 0$newline" cuts_of /dev/null
     check "cuts on an endless input" prints "file code 26 place 0$newline" cuts_of /dev/zero
     check "cuts on an endless pipe" prints "file code 26 place 0$newline" cuts_of_endless_pipe
-    check "a long file" make_long_file
     check "cuts into a closed pipe" closed_pipe :
     check "cuts into a closed pipe, SIGPIPE ignored" closed_pipe "trap '' PIPE"
     check "cuts into a full device" full_output
@@ -149,8 +153,12 @@ same_text() { # FILE
 
 example_is_made() { "$made/make_record.sh" <"$root/examples/year.txt" | cmp - "$root/examples/year.record"; }
 
-check_examples() {
+make_files() {
     rules_example >"$made/rules.record"
+    check "a long file" make_long_file
+}
+
+check_examples() {
     check "the rules' example" prints "term 5 code 0 place 0${newline}1 273066${newline}2 0 2:12${newline}" \
         cuts_of "$made/rules.record"
     check "the rules' example in C" same_text "$made/rules.record"
@@ -159,9 +167,14 @@ check_examples() {
     check "the year is made of its text" example_is_made
 }
 
+# The program cuts and the scripts are tried only where they are the real ones.
 run_checks() {
+    make_files
     check_archive
-    check_cuts
+    if [ -n "$real" ]; then
+        check_cuts
+        check_command
+    fi
     check_examples
     echo "checks beside the cases: $passed passed, $failed failed"
 }

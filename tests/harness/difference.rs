@@ -60,3 +60,16 @@ pub fn between_texts(expected: &str, got: &str) -> String {
         got.len()
     )
 }
+
+/// The first byte that differs.
+pub fn between_files(expected: &[u8], got: &[u8]) -> String {
+    let place = expected.iter().zip(got).take_while(|(one, other)| one == other).count();
+    format!(
+        "byte {}: expected {:?}, got {:?} ({} and {} bytes in all)",
+        place,
+        expected.get(place),
+        got.get(place),
+        expected.len(),
+        got.len()
+    )
+}

@@ -1,7 +1,8 @@
 //! The comparing harness: puts cases drawn from a printed seed to the real C functions and to the
-//! real program `cuts`, and compares every reply, byte and line with the second program.
+//! real programs, and compares every reply, byte and line with the second program.
 //! Its last line is `N passed, M failed`, counting cases.
 
+mod calendar;
 mod chance;
 mod damage;
 mod difference;
@@ -10,9 +11,12 @@ mod edges;
 mod files;
 mod met;
 mod options;
+mod packed;
+mod packing;
 mod paper;
 mod peers;
 mod plan;
+mod printers;
 mod printing;
 mod program;
 mod reading;
@@ -23,6 +27,8 @@ mod rng;
 mod shares;
 mod solving;
 mod summary;
+mod telling;
+mod texts;
 mod walking;
 mod workers;
 mod writing;

@@ -5,7 +5,13 @@ use std::path::PathBuf;
 /// What a run is asked for.
 pub struct Options {
     pub driver: PathBuf,
-    pub program: PathBuf,
+    /// The program that prints the cuts of a file and says nothing more.
+    pub cuts: Option<PathBuf>,
+    /// The C example and the command, which print the same and tell refusals.
+    pub example: Option<PathBuf>,
+    pub command: Option<PathBuf>,
+    /// The program that makes a record file of a text.
+    pub pack: PathBuf,
     /// The command that compares the same two sides again.
     pub again: String,
     pub seed: u64,
@@ -35,7 +41,10 @@ impl Options {
     pub fn from(arguments: impl Iterator<Item = String>) -> Option<Options> {
         let mut options = Options {
             driver: PathBuf::new(),
-            program: PathBuf::new(),
+            cuts: None,
+            example: None,
+            command: None,
+            pack: PathBuf::new(),
             again: String::new(),
             seed: 1,
             case: None,
@@ -47,13 +56,21 @@ impl Options {
         while let Some(name) = arguments.next() {
             options.set(&name, arguments.next()?)?;
         }
-        Some(options)
+        options.prints().then_some(options)
+    }
+
+    /// Whether some program prints the cuts of every file.
+    fn prints(&self) -> bool {
+        self.cuts.is_some() || self.example.is_some()
     }
 
     fn set(&mut self, name: &str, value: String) -> Option<()> {
         match name {
             "--driver" => self.driver = PathBuf::from(value),
-            "--cuts" => self.program = PathBuf::from(value),
+            "--cuts" => self.cuts = Some(PathBuf::from(value)),
+            "--example" => self.example = Some(PathBuf::from(value)),
+            "--command" => self.command = Some(PathBuf::from(value)),
+            "--pack" => self.pack = PathBuf::from(value),
             "--again" => self.again = value,
             "--seed" => self.seed = value.parse().ok()?,
             "--case" => self.case = Some(value.parse().ok()?),

@@ -4,17 +4,21 @@ use crate::difference;
 use crate::driver::Driver;
 use crate::met::Met;
 use crate::options::Options;
-use crate::program::{text_of, Feeding};
+use crate::packed::Packed;
+use crate::printers::Printer;
+use crate::program::{run, Feeding};
 use crate::request::{Left, Request};
 use std::path::PathBuf;
 
 /// What became of a case; an error says what differs.
 pub type Outcome = Result<(), String>;
 
-/// The real side: the C functions behind the driver, and the program `cuts`.
+/// The real side: the C functions behind the driver, the programs that print cuts, and the one that packs texts.
 pub struct Peers {
     driver: Driver,
-    program: PathBuf,
+    printers: Vec<Printer>,
+    packer: PathBuf,
+    case: usize,
     placing: u8,
     by_chance: bool,
     /// How many bytes of a slice or file are shown where something differs.
@@ -27,7 +31,9 @@ impl Peers {
     pub fn new(options: &Options) -> Peers {
         Peers {
             driver: Driver::at(&options.driver),
-            program: options.program.clone(),
+            printers: Printer::named(options),
+            packer: options.pack.clone(),
+            case: 0,
             placing: 0,
             by_chance: false,
             shown: if options.case.is_some() { usize::MAX } else { 48 },
@@ -37,6 +43,7 @@ impl Peers {
 
     /// Begins a case, so that it runs the same alone as among others.
     pub fn begin(&mut self, case: usize, by_chance: bool) {
+        self.case = case;
         self.placing = (case % 4) as u8;
         self.by_chance = by_chance;
     }
@@ -74,16 +81,26 @@ impl Peers {
         format!("{}\n  {}", words, request.in_words(self.shown))
     }
 
-    /// Runs `cuts` on a file; its text is returned where both sides agree.
+    /// Prints the cuts of a file; the text is returned where all programs agree.
     pub fn cuts(&mut self, file: &[u8], feeding: Feeding) -> Result<String, String> {
         let expected = second::lines::text(file);
         self.met.note_file(&expected, self.by_chance);
-        let printed = text_of(&self.program, file, feeding)?;
-        if printed == expected {
-            return Ok(printed);
+        for printer in self.printers.iter().filter(|printer| printer.is_run_in(self.case)) {
+            printer.compare(file, feeding, &expected).map_err(|words| {
+                let request = Request::read_file(file.to_vec());
+                format!("{}, fed {:?}: {}", printer.name, feeding, self.told(&request, &words))
+            })?;
         }
-        let words = difference::between_texts(&expected, &printed);
-        let request = Request::read_file(file.to_vec());
-        Err(format!("cuts, fed {:?}: {}", feeding, self.told(&request, &words)))
+        Ok(expected)
+    }
+
+    /// Packs a text, and judges what comes of it.
+    pub fn pack(&mut self, text: &[u8], judge: impl FnOnce(Packed) -> Outcome) -> Outcome {
+        let said = run(&self.packer, &[], text, Feeding::AtOnce)?;
+        Packed::of(said, text).and_then(judge).map_err(|words| {
+            let shown = String::from_utf8_lossy(&text[..text.len().min(self.shown)]);
+            let more = if text.len() > self.shown { ".." } else { "" };
+            format!("make_record: {}\n  text of {} bytes: {:?}{}", words, text.len(), shown, more)
+        })
     }
 }

@@ -3,7 +3,7 @@
 use crate::peers::{Outcome, Peers};
 use crate::records::Look;
 use crate::rng::Rng;
-use crate::{chance, damage, edges, paper, printing, reading, relations, shares, solving, walking, writing};
+use crate::{chance, damage, edges, packing, paper, printing, reading, relations, shares, solving, walking, writing};
 
 /// Runs the case with the index within its family.
 type Run = fn(&mut Rng, usize, &mut Peers) -> Outcome;
@@ -23,7 +23,10 @@ pub struct Plan {
 impl Plan {
     pub fn whole() -> Plan {
         Plan {
-            families: [records(), refusals(), walks(), files(), demand_3(), programs()].into_iter().flatten().collect(),
+            families: [records(), refusals(), walks(), files(), demand_3(), programs(), texts()]
+                .into_iter()
+                .flatten()
+                .collect(),
         }
     }
 
@@ -140,5 +143,14 @@ fn programs() -> Vec<Family> {
         family("the example with a bit flipped printed", 200, printing::flipped),
         by_chance("damaged files printed", 150, printing::damaged),
         family("one term in two files printed", 30, printing::same_term),
+    ]
+}
+
+fn texts() -> Vec<Family> {
+    vec![
+        family("texts packed", 150, packing::sound_text),
+        family("words packed", 40, packing::words),
+        family("shares rounded", 60, packing::rounded),
+        by_chance("damaged texts packed", 200, packing::damaged),
     ]
 }

@@ -1,4 +1,4 @@
-//! Files given to the program `cuts`: sound, damaged and as large as can be.
+//! Files given to the programs that print cuts: sound, damaged and as large as can be.
 
 use crate::chance::damaged_file;
 use crate::files::{file_of, of_lengths, sound, Entry};
