@@ -173,7 +173,7 @@ run_checks() {
     check_archive
     if [ -n "$real" ]; then
         check_cuts
-        check_command
+        check_commands
     fi
     check_examples
     echo "checks beside the cases: $passed passed, $failed failed"

@@ -1,0 +1,60 @@
+# pack.sh: texts for ./pack, its arguments and its streams.
+
+# The words for a text on standard input, status 1 and no output.
+faults() { # TEXT WORDS
+    answers 1 "" "$2${newline}nothing is written$newline" shell "printf '$1' | \"\$made/make_record.sh\""
+}
+
+faulty_text() {
+    ends_with 1 "$root/pack" "$root/tests/commands/texts/faulty.txt" >"$made/output" 2>"$made/words" &&
+        diff "$root/tests/commands/texts/faulty.words" "$made/words" && [ ! -s "$made/output" ]
+}
+
+edges_packed() { "$root/pack" "$root/tests/commands/texts/edges.txt" | cmp - "$root/tests/commands/texts/edges.record"; }
+
+# A term for each number from 1 on, with as many observations each.
+terms() { # TERMS OBSERVATIONS
+    awk -v terms="$1" -v most="$2" 'BEGIN {
+        for (i = 1; i <= terms; i++) {
+            print "term", i, "kernel 1 dmax 1"
+            for (j = 1; j <= most; j++) print j, j % 7
+        }
+    }'
+}
+
+many_faults() {
+    { echo 'term 1 kernel 1 dmax 1' && yes x | head -n 150; } | ends_with 1 "$made/make_record.sh" 2>"$made/words" || return
+    [ "$(grep -c '^line' "$made/words")" = 100 ] &&
+        [ "$(tail -n 2 "$made/words")" = "and 50 faults more${newline}nothing is written" ]
+}
+
+packed_and_cut() {
+    "$root/pack" "$root/examples/spring.txt" >"$made/spring.record" && "$root/cuts" --dates "$made/spring.record" >"$made/spring.lines"
+}
+
+in_the_readme() { case $(cat "$root/README.md") in *"$(sed 's/^/    /' "$made/spring.lines")"*) ;; *) cat "$made/spring.lines" && return 1 ;; esac; }
+
+pack_refuses() { # WORDS
+    answers 1 "" "$1${newline}nothing is written$newline" "$root/pack" "$made/text"
+}
+
+check_packing() {
+    check "a text with every fault" faulty_text
+    check "a text at the edges" edges_packed
+    check "an empty text" faults '' "line 1: the count of records is 0 or above 64 (code 21)"
+    check "a byte that is no text" faults 'term 1 kernel 1 dmax 1\n1 5\000\n' "line 2: the line holds a byte that is no text"
+    check "more faults than are told" many_faults
+    terms 1 401 >"$made/text" && check "401 observations" pack_refuses "line 1: there are more than 400 observations (code 2)"
+    terms 65 1 >"$made/text" && check "65 terms" pack_refuses "line 129: the count of records is 0 or above 64 (code 21)"
+    terms 14 390 >"$made/text" && check "a file that is too long" pack_refuses "line 5462: the file is longer than 65,536 bytes (code 26)"
+    for option in -h --help; do check "pack $option" usage_of "$root/pack" "$option"; done
+    for name in "" /nowhere "$made"; do check "a text that cannot be read: '$name'" ends_with 3 shell "\"\$root/pack\" '$name' >/dev/null"; done
+    check "pack without a text" ends_with 3 shell '"$root/pack" >/dev/null'
+    check "pack of two texts" ends_with 3 shell '"$root/pack" a b >/dev/null'
+    check "make_record of two texts" ends_with 3 shell '"$made/make_record.sh" a b >/dev/null'
+    check "pack on a full disk" ends_with 3 shell '"$root/pack" "$root/examples/year.txt" >/dev/full'
+    check "pack with standard input closed" ends_with 3 shell '"$root/pack" - <&- >/dev/null'
+    check "pack with standard output closed" ends_with 3 shell '"$root/pack" "$root/examples/year.txt" >&-'
+    check "the worked example" packed_and_cut
+    check "the worked example in README" in_the_readme
+}
