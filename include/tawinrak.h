@@ -26,7 +26,7 @@
  *
  * Costs
  *   The cost of a segment of m observations is 4,096 * R / m, rounded down, in
- *   units of 1/4,096. R is a sum over all pairs of two of its samples x, y:
+ *   units of 1/4,096. R is a sum over all pairs x, y of its samples, each pair once:
  *     linear    R = sum of (x - y)^2
  *               R/m is the sum of squared distances from the segment's mean
  *     spelling  R = 2 * (number of pairs with x and y unequal)
