@@ -11,7 +11,9 @@
  */
 #include "tawinrak.h"
 
+#include <errno.h>
 #include <inttypes.h>
+#include <signal.h>
 #include <stdio.h>
 #include <string.h>
 
@@ -119,9 +121,11 @@ static int print_file(size_t length)
     return status;
 }
 
+/* Says why there is no answer, unless its reader has gone. */
 static int not_answered(const char *what)
 {
-    perror(what);
+    if (errno != EPIPE)
+        fprintf(stderr, "'%s': %s\n", what, strerror(errno));
     return NOT_ANSWERED;
 }
 
@@ -131,6 +135,7 @@ int main(int argc, char **argv)
         fprintf(stderr, "usage: cuts_of_file [FILE]\n");
         return NOT_ANSWERED;
     }
+    signal(SIGPIPE, SIG_IGN);
     const char *name = argc > 1 ? argv[1] : "-";
     FILE *input = strcmp(name, "-") == 0 ? stdin : fopen(name, "rb");
     if (input == NULL)

@@ -12,6 +12,8 @@
 #include "make_record/values.h"
 #include "tawinrak.h"
 
+#include <errno.h>
+#include <signal.h>
 #include <stdbool.h>
 #include <stdio.h>
 #include <string.h>
@@ -252,8 +254,10 @@ static bool read_day(const char *text, uint32_t *day)
     uint64_t number;
     if (read_date(text, day))
         return true;
+    if (strchr(text, '-') != NULL)
+        return fault("is not a date from 1970-01-01 to 9999-12-31", text);
     if (!read_number(text, (uint64_t)UINT32_MAX + 1, &number) || number > UINT32_MAX)
-        return fault("is neither a day number up to 4,294,967,295 nor a date from 1970-01-01 to 9999-12-31", text);
+        return fault("is neither a date such as 2026-01-31 nor a day number up to 4,294,967,295", text);
     *day = (uint32_t)number;
     return true;
 }
@@ -335,7 +339,7 @@ static void read_observation(void)
     uint32_t day = 0;
     uint64_t sample = 0;
     if (line.field_count != 2) {
-        fault("an observation is a day and a sample", NULL);
+        fault("an observation is two fields, a day and a sample", NULL);
         return;
     }
     bool has_day = read_day(line.fields[0], &day);
@@ -362,7 +366,7 @@ static void read_line(void)
         return;
     }
     if (!term.begun && wrong == NULL)
-        wrong = "no term line stands before this one";
+        wrong = "no line that begins with term stands before this one";
     term.begun = true;
     term.n++;
     if (wrong != NULL)
@@ -374,26 +378,36 @@ static void read_line(void)
 /* Reads the whole text; answers false where it cannot be read. */
 static bool read_text(FILE *text)
 {
-    while (take_line(text, &line)) {
+    size_t length = 0;
+    while (length < TEXT_BYTES && take_line(text, &line)) {
         line_number++;
-        read_line();
+        length += line.length + 1;
+        if (length < TEXT_BYTES)
+            read_line();
+        else
+            fault("the text is longer than 16,777,216 bytes", NULL);
     }
     end_term();
     return !ferror(text);
 }
 
-/* Makes the file, unless there is a fault. */
+/* Makes the file, unless a line has a fault. */
 static void make_file(void)
 {
-    unsigned last_line = kept_line > 0 ? kept_line : line_number + (line_number == 0);
-    if (!any_fault())
-        note_reply(last_line, tawinrak_write_file(entries, TAWINRAK_ENTRY_BYTES * entry_count, bodies, bodies_len, file,
+    if (any_fault())
+        return;
+    if (entry_count == 0)
+        note_fault(line_number > 0 ? line_number : 1, "the text has no line that begins with term", NULL);
+    else
+        note_reply(kept_line, tawinrak_write_file(entries, TAWINRAK_ENTRY_BYTES * entry_count, bodies, bodies_len, file,
                                                   sizeof file));
 }
 
+/* Says why there is no answer, unless its reader has gone. */
 static int not_answered(const char *what)
 {
-    perror(what);
+    if (errno != EPIPE)
+        fprintf(stderr, "'%s': %s\n", what, strerror(errno));
     return NOT_ANSWERED;
 }
 
@@ -403,6 +417,7 @@ int main(int argc, char **argv)
         fprintf(stderr, "usage: make_record [FILE] >RECORD\n");
         return NOT_ANSWERED;
     }
+    signal(SIGPIPE, SIG_IGN);
     const char *name = argc > 1 ? argv[1] : "-";
     FILE *input = strcmp(name, "-") == 0 ? stdin : fopen(name, "rb");
     if (input == NULL || !read_text(input))

@@ -18,11 +18,12 @@
  *   Counts are given as they are. Where they are larger, count in hundreds.
  *   Shares are given as doubles v from about -15.26 to 15.26, and x is 65,536 * v,
  *   which must be whole: round a share to the nearest 1/65,536 first, as with
- *   rint(65536 * v) / 65536. Percents above 15 are out of range: divide them by 100.
+ *   round(65536 * v) / 65536. Divide percents by 100: most are out of range.
  *   Spellings are given as codes, one number for each spelling. Only whether two
  *   codes are equal counts, so number the spellings of a record 1, 2, 3 and so on
  *   in any order. Do not use hashes: they are out of range, and cut to fit two
- *   spellings may share one.
+ *   spellings may share one. Whether "matinee" and "Matinee" are two spellings
+ *   is for whoever numbers them to decide.
  *
  * Costs
  *   The cost of a segment of m observations is 4,096 * R / m, rounded down, in
@@ -46,8 +47,11 @@
  *   D to take is the caller's choice. The cost never rises with D: it falls much
  *   while a further segment begins at a true jump, and little after. So ask for a
  *   dmax of 12, and take the D where cost + D * price is least, the price being
- *   what one more segment must save to be worth it. With the linear kernel, and
- *   days that vary by s round their level, 12 * 4,096 * s^2 is a fair price.
+ *   what one more segment must save to be worth it. With the linear kernel
+ *   12 * 4,096 * s^2 is a fair price, for s the standard deviation of the samples
+ *   x round their level (of shares, 65,536 times that of v); with n days and
+ *   enough segments D it is about sqrt(cost / 4,096 / (n - D)). For the other
+ *   kernels no such rule is known here: look where the cost stops falling much.
  *
  * Change dates
  *   Each segment but the first has a change date. With p the last day before the
@@ -109,7 +113,7 @@ extern "C" {
 #define TAWINRAK_RECORD_COUNT 21u
 #define TAWINRAK_BODY_MISPLACED 22u
 #define TAWINRAK_TERM_NOT_ABOVE 23u
-#define TAWINRAK_UNKNOWN_KIND 24u /* of tawinrak_solve its place is 0 */
+#define TAWINRAK_UNKNOWN_KIND 24u
 #define TAWINRAK_BYTES_LEFT_OVER 25u
 #define TAWINRAK_FILE_TOO_LONG 26u
 #define TAWINRAK_OUTPUT_TOO_SHORT 27u
@@ -153,7 +157,7 @@ static inline const char *tawinrak_text(unsigned code)
     }
 }
 
-/* What the place of a code counts, "index" or "entry"; "" where the place is 0. */
+/* What the place of a code counts, "index" or "entry"; "" where the place is 0. In tawinrak_solve that of 24 is 0. */
 static inline const char *tawinrak_counted(unsigned code)
 {
     switch (code) {

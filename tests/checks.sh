@@ -6,13 +6,13 @@ newline='
 '
 
 check() { # NAME COMMAND...
-    name=$1
+    checked=$1
     shift
     if "$@" >"$made/check.out" 2>&1; then
         passed=$((passed + 1))
     else
         failed=$((failed + 1))
-        echo "FAILED $name"
+        echo "FAILED $checked"
         sed 's/^/  /' "$made/check.out"
     fi
 }

@@ -4,11 +4,12 @@
 #   fail WORDS      ends with status 3, which stands for everything that keeps an answer away
 #   put TEXT        writes a text and a newline to standard output
 #   put_and_end     does so and ends with status 0
-#   version         the version that the header has
+#   put_version     does so with the version that the header has
+#   use NAME        runs tools/NAME.sh
 #   input           closed where standard input is, else open
 
 fail() {
-    echo "$me: $1" >&2
+    printf '%s: %s\n' "$me" "$1" >&2
     exit 3
 }
 
@@ -27,7 +28,16 @@ put_and_end() {
     exit 0
 }
 
-version() { sed -n 's/^#define TAWINRAK_VERSION "\(.*\)"$/Tawinrak \1/p' "$root/include/tawinrak.h"; }
+put_version() {
+    version=$(sed -n 's/^#define TAWINRAK_VERSION "\(.*\)"$/Tawinrak \1/p' "$root/include/tawinrak.h")
+    [ -n "$version" ] || fail "the version cannot be told"
+    put_and_end "$version"
+}
+
+use() {
+    [ -r "$root/tools/$1.sh" ] || fail "$root/tools/$1.sh cannot be read"
+    . "$root/tools/$1.sh"
+}
 
 # A stream that is closed must not come to stand for a file or a pipe opened later.
 input=open

@@ -2,19 +2,25 @@
 
 #include <string.h>
 
+/* Ends a line behind its first bytes. */
+static void end_line(Line *line, size_t length)
+{
+    line->length = length;
+    line->bytes[length < sizeof line->bytes ? length : sizeof line->bytes - 1] = '\0';
+}
+
 bool take_line(FILE *text, Line *line)
 {
-    int byte;
-    line->length = 0;
-    while ((byte = getc(text)) != EOF && byte != '\n') {
-        if (line->length <= LINE_BYTES)
-            line->bytes[line->length++] = (char)byte;
+    size_t length = 0;
+    int byte, last = EOF;
+    while ((byte = getc(text)) != EOF && byte != '\n' && length < TEXT_BYTES) {
+        if (length < sizeof line->bytes)
+            line->bytes[length] = (char)byte;
+        length++;
+        last = byte;
     }
-    bool more = byte != EOF || line->length > 0;
-    if (line->length > 0 && line->bytes[line->length - 1] == '\r')
-        line->length--;
-    line->bytes[line->length] = '\0';
-    return more;
+    end_line(line, last == '\r' ? length - 1 : length);
+    return byte != EOF || length > 0;
 }
 
 static bool is_blank(char character)

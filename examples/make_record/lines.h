@@ -5,19 +5,20 @@
 #include <stdbool.h>
 #include <stdio.h>
 
-/* The longest line, but for comments. */
+/* The longest line, but for comments, and the longest text. */
 #define LINE_BYTES 1000u
+#define TEXT_BYTES 16777216u
 
 #define MOST_FIELDS 10u
 
 typedef struct {
-    char bytes[LINE_BYTES + 2];
-    size_t length;
+    char bytes[LINE_BYTES + 1];
+    size_t length; /* of the whole line, also where it is longer than what is kept */
     char *fields[MOST_FIELDS];
     unsigned field_count;
 } Line;
 
-/* Reads the next line, without its end and as far as it may be long; false at the end of the text. */
+/* Reads the next line without its end, or as much as a text may have of it; false at the end of the text. */
 bool take_line(FILE *text, Line *line);
 
 /*

@@ -18,6 +18,11 @@ reader_gone() { # WORDS SAID
     }
 }
 
+example_reader_gone() {
+    into_closed_pipe : '"$root/examples/run" "$made/long.record"'
+    [ "$(cat "$made/status")" = 3 ] && [ ! -s "$made/complaint" ]
+}
+
 check_arguments() {
     check "a refused term beside one that is done" one_of_two
     check "the example without arguments" answers 0 "$year" "" "$root/cuts"
@@ -42,6 +47,8 @@ check_streams() {
     check "a full disk for sentences" answers 2 "file code 20 place 0$newline" "" shell '"$root/cuts" "$made/20.record" 2>/dev/full'
     check "a reader that is gone" reader_gone : ""
     check "a reader that is gone, SIGPIPE ignored" reader_gone "trap '' PIPE" "cuts: standard output cannot be written"
+    check "examples/run" answers 0 "$year" "" "$root/examples/run"
+    check "examples/run into a reader that is gone" example_reader_gone
     check "the C example on a full disk" ends_with 3 shell '"$made/cuts_of_file.sh" <"$root/examples/year.record" >/dev/full'
     check "the C example without input" ends_with 3 shell '"$made/cuts_of_file.sh" <&-'
     check "the C example on a folder" ends_with 3 shell '"$made/cuts_of_file.sh" <"$made"'

@@ -12,7 +12,8 @@ own_words() { [ -z "$("$made/texts.sh" | sed 's/,* (code [0-9]*)$//' | sort | un
 
 same_version() {
     version=$("$made/texts.sh" | head -n 1)
-    answers 0 "$version$newline" "" "$root/cuts" --version && answers 0 "$version$newline" "" "$root/pack" --version
+    answers 0 "$version$newline" "" "$root/cuts" --version && answers 0 "$version$newline" "" "$root/pack" --version &&
+        grep -q "TAWINRAK_VERSION. is ${version#Tawinrak }\." "$root/README.md"
 }
 
 # Days as the system's calendar has them, at the ends of months, of leap years and of what a day may be.
