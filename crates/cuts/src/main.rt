@@ -1,4 +1,4 @@
-// Prints the cuts of the record file that stands on standard input: `file code C place P` for a refused file, and else each term's lines in
+// Prints the cuts of the record file that stands on standard input: `file code C place P at B` for a refused file, and else each term's lines in
 // order. It reads one byte more than the longest file has and no further.
 ghost use mathlib.Core.Path.{_≡_};
 ghost use Prim.Native.Nat.{_<_};
@@ -10,11 +10,6 @@ use report::Written;
 
 // One byte more than the longest file has.
 const INPUT_ROOM: usize = 65537;
-
-// Room for all lines of a term, and for the line of a refused file.
-const TEXT_ROOM: usize = 6200;
-
-const LINE_ROOM: usize = 64;
 
 // Writes out a text that stands at the front of a buffer, and answers whether all of it went.
 fn print_text(w: Written, text: &[u8]) -> bool {
@@ -33,7 +28,7 @@ fn print_text(w: Written, text: &[u8]) -> bool {
 fn print_term(file: &[u8], i: usize) -> bool
     requires { ⌜ (readReply (now file) .code ≡ 0) × (i < countIn (now file)) ⌝ }
 {
-    let mut text = [0u8; TEXT_ROOM];
+    let mut text = [0u8; report::TEXT_ROOM];
     let w = report::term_lines(file, i, &mut text);
     print_text(w, &text)
 }
@@ -55,7 +50,7 @@ fn print_terms(file: &[u8])
 fn print_file(file: &[u8]) {
     let r = file::read_file(file);
     if r.code != 0 {
-        let mut line = [0u8; LINE_ROOM];
+        let mut line = [0u8; report::LINE_ROOM];
         let w = report::file_line(r, &mut line);
         print_text(w, &line);
         return;

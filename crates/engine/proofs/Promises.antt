@@ -8,7 +8,7 @@ use Rattle.cutting.specs.Limits.{mostObservations}
 use Rattle.reply.specs.Reply.{done}
 use Rattle.reply.specs.Codes.{among}
 use Rattle.reply.specs.Tries.{firstOf, Coded, Within, Every}
-use Rattle.reply.specs.Answered.{Answered, Placed}
+use Rattle.reply.specs.Answered.{Answered, PlacedOnly}
 use Rattle.reply.proofs.Exactly.{told, some-code, clear-done, refused-gives, answered, not-among}
 use Rattle.reply.proofs.Answers.{last-fails, past, placed}
 use Rattle.record.specs.declared.Asked.{Asked}
@@ -40,16 +40,16 @@ module _ (asked : Asked) (body : List ℕ) (costs starts : ℕ) where
   -- "A refusal is given only where its stated reason holds; where none does, the reply is 0." "For a record: 3, then 1, 2, 4, 5, 6, 7, then 8 over all
   -- indices, then samples by index, where one sample is tried for 9, 10, 11." "place is the later index", "place is its index", and "0 unless stated".
   pub solve-answered :
-      Answered solveCodes (Placed indexCodes (observations body) mostObservations) (givenTries asked body costs starts)
+      Answered solveCodes (PlacedOnly indexCodes (observations body) mostObservations) (givenTries asked body costs starts)
       (solveReply asked body costs starts)
   unfolding among
   solve-answered =
       let within : Within solveCodes (givenTries asked body costs starts) = search depth 20 in
-      let places : Every (Placed indexCodes (observations body) mostObservations) (givenTries asked body costs starts) = (
+      let places : Every (PlacedOnly indexCodes (observations body) mostObservations) (givenTries asked body costs starts) = (
         search placed depth 20,
         λ shape. let few : observations body ≤ mostObservations = shape .1 .0 .0 .1 in search placed depth 20,
       ) in
-      rw given-all (answered solveCodes (Placed indexCodes (observations body) mostObservations) (givenTries asked body costs starts) given-coded within (inl refl) places)
+      rw given-all (answered solveCodes (PlacedOnly indexCodes (observations body) mostObservations) (givenTries asked body costs starts) given-coded within (inl refl, refl) places)
 
   -- It is 0 exactly for a record that is `Accepted`.
   pub solve-accepted : (solveReply asked body costs starts .code ≡ 0) ↔ Accepted asked body costs starts

@@ -1,5 +1,5 @@
 -- What the functions that judge entries answer. Assumes nothing.
-use Prim.Native.Nat.{ℕ, _+_, _*_, _≤_, _<_}
+use Prim.Native.Nat.{ℕ, _+_, _*_, _^_, _≤_, _<_}
 use mathlib.Core.Path.{_≡_, refl, sym, ap, _∙_}
 use mathlib.Core.Bool.{Bool, false}
 use mathlib.Core.List.{List}
@@ -23,7 +23,7 @@ use Rattle.file.specs.Limits.{mostRecords}
 use Rattle.file.specs.Layout.{inFile, widthOf, offsetAt, sizeOf}
 use Rattle.file.specs.Contents.{placeIn, entryIn, dueIn, offsetIn}
 use Rattle.file.specs.Tries.{badCount, entryTries, triesIn, contentsTries, leftTry, entriesTries}
-use Rattle.file.specs.Steps.{Listed, Judged}
+use Rattle.file.specs.Steps.{Near, Listed, Judged}
 
 -- a count that is not bad
 pub few : (n : ℕ) (b : Bool) → b ≡ test (badCount n) → b ≡ false → n ≤ mostRecords
@@ -34,16 +34,16 @@ pub file-step : (w : Widths) (step n : ℕ) → w ≡ inFile → step ≡ widthO
 file-step w step n hw h = ap (λ (x : ℕ). x * n) (h ∙ ap widthOf hw)
 
 -- what is tried of an entry has proper codes, and a reply of 0 says that nothing of it holds
-pub coded-entry : (e : Entry) (offset : ℕ) (due : Due) (limit i : ℕ) → Coded (entryTries e offset due limit i)
-coded-entry e offset due limit i = search depth 20
+pub coded-entry : (c : Contents) (e : Entry) (offset : ℕ) (due : Due) (i : ℕ) → Coded (entryTries c e offset due i)
+coded-entry c e offset due i = search depth 20
 
 module _ (c : Contents) (s : List ℕ) where
-  -- entry i is there
-  pub place-is : (step i : ℕ) → step ≡ widthOf (c .widths) → c .from + step * i ≡ placeIn c i
-  place-is step i e = ap (λ (x : ℕ). c .from + x * i) e
+  -- entry i is there, and near
+  pub place-room : Listed c s → (i : ℕ) → i < c .count → placeIn c i + widthOf (c .widths) ≤ length s
+  place-room L i h = omega (arith, L .room, mul-le-mul-left (widthOf (c .widths)) h)
 
-  pub place-room : Listed c s → (i : ℕ) → i < c .count → (step : ℕ) → step ≡ widthOf (c .widths) → c .from + step * i + widthOf (c .widths) ≤ length s
-  place-room L i h step e = omega (arith, L .room, mul-le-mul-left (widthOf (c .widths)) h, place-is step i e)
+  pub place-near : Listed c s → (i : ℕ) → i < c .count → length s < 2 ^ 64 → Near c i
+  place-near L i h few = record { narrow = L .narrow; place = omega (arith, place-room L i h) }
 
   -- what is due of the first entry, and of the next
   pub due-first : dueIn c s 0 ≡ record { floor = 0; at = c .start }
@@ -77,12 +77,12 @@ module _ (c : Contents) (s : List ℕ) where
 
     module _
         (h : i < c .count) (e : Entry) (offset : ℕ) (r : Reply) (he : e ≡ entryIn c s i)
-        (ho : offset ≡ offsetAt (c .widths) s (placeIn c i) (due .at)) (hr : r ≡ firstOf (entryTries e offset due (c .limit) i)) where
+        (ho : offset ≡ offsetAt (c .widths) s (placeIn c i) (due .at)) (hr : r ≡ firstOf (entryTries c e offset due i)) where
       offset-is : offset ≡ offsetIn c s i
       offset-is = ho ∙ ap (λ (d : Due). offsetAt (c .widths) s (placeIn c i) (d .at)) (W .due-is)
 
       reply-is : r ≡ firstOf (triesIn c s i)
-      reply-is = hr ∙ (λ j. firstOf (entryTries (he j) (offset-is j) (W .due-is j) (c .limit) i))
+      reply-is = hr ∙ (λ j. firstOf (entryTries c (he j) (offset-is j) (W .due-is j) i))
 
       pub walking-stop : (r .code ≡ 0 → ⊥) → Judged (record { reply = r; end = due .at }) c s
       walking-stop z = record {
@@ -93,7 +93,7 @@ module _ (c : Contents) (s : List ℕ) where
 
       module _ (z : r .code ≡ 0) where
         pub walking-room : due .at + sizeOf e ≤ c .limit
-        walking-room = passed (entryTries e offset due (c .limit) i) (coded-entry e offset due (c .limit) i) r hr z .1 .1 .1
+        walking-room = passed (entryTries c e offset due i) (coded-entry c e offset due i) r hr z .1 .1 .1
 
         pub walking-more : (floor size : ℕ) → floor ≡ e .term + 1 → size ≡ sizeOf e → Walking (i + 1) (record { floor = floor; at = due .at + size })
         walking-more floor size hf hs = record {

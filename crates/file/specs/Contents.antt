@@ -7,7 +7,7 @@ use Rattle.file.specs.declared.layout.Entry.{Entry}
 use Rattle.file.specs.declared.contents.Contents.{Contents}
 use Rattle.file.specs.declared.contents.Due.{Due}
 use Rattle.file.specs.Limits.{countBytes}
-use Rattle.file.specs.Layout.{inFile, asLent, widthOf, entryAt, offsetAt, sizeOf}
+use Rattle.file.specs.Layout.{inFile, asLent, widthOf, toOffset, entryAt, offsetAt, sizeOf}
 
 -- "Two bytes give the count of records"
 abbrev pub countIn : List ℕ → ℕ
@@ -54,3 +54,7 @@ dueIn c s (suc i) = record { floor = entryIn c s i .term + 1; at = dueIn c s i .
 -- Its offset.
 abbrev pub offsetIn : Contents → List ℕ → ℕ → ℕ
 offsetIn c s i = offsetAt (c .widths) s (placeIn c i) (dueIn c s i .at)
+
+-- Where that field begins.
+abbrev pub offsetFieldIn : Contents → ℕ → ℕ
+offsetFieldIn c i = toOffset (placeIn c i)

@@ -1,5 +1,5 @@
 -- What the functions of the reader and the writer ask of one another.
-use Prim.Native.Nat.{ℕ, _+_, _-_, _≤_}
+use Prim.Native.Nat.{ℕ, _+_, _-_, _^_, _≤_, _<_}
 use mathlib.Core.Path.{_≡_}
 use mathlib.Core.List.{List}
 use lib.ListN.{length, take, drop}
@@ -10,13 +10,18 @@ use Rattle.file.specs.declared.contents.Reached.{Reached}
 use Rattle.file.specs.declared.reader.Found.{Found}
 use Rattle.file.specs.Limits.{mostBytes, mostRecords, offsetBytes}
 use Rattle.file.specs.Layout.{sizeOf}
-use Rattle.file.specs.Contents.{bodiesAt, filed, placeIn, dueIn, offsetIn}
+use Rattle.file.specs.Contents.{bodiesAt, filed, placeIn, dueIn, offsetIn, offsetFieldIn}
 use Rattle.file.specs.Items.{itemAt}
 use Rattle.file.specs.Tries.{contentsTries}
 
 -- Widths of fields that a number takes.
 pub record Narrow (w : Widths) : Type 0 where
   pub offset : w .offset ≤ offsetBytes
+
+-- Entry i of c stands where a number of 64 bits can say.
+pub record Near (c : Contents) (i : ℕ) : Type 0 where
+  pub narrow : Narrow (c .widths)
+  pub place : offsetFieldIn c i < 2 ^ 64
 
 -- The entries of c stand in s.
 pub record Listed (c : Contents) (s : List ℕ) : Type 0 where

@@ -5,9 +5,9 @@ ghost use Rattle.reply.specs.Facts.{test};
 ghost use Rattle.reply.specs.Tries.{firstOf};
 ghost use Rattle.file.specs.Limits.{mostCount};
 ghost use Rattle.file.specs.Layout.{offsetAt, Fits};
-ghost use Rattle.file.specs.Contents.{bodiesAt, placeIn, entryIn};
+ghost use Rattle.file.specs.Contents.{bodiesAt, placeIn, entryIn, offsetFieldIn};
 ghost use Rattle.file.specs.Tries.{badCount, entryTries, entriesTries};
-ghost use Rattle.file.specs.Steps.{Listed, Judged};
+ghost use Rattle.file.specs.Steps.{Near, Listed, Judged};
 use crate::layout;
 use crate::layout::Entry;
 use crate::layout::Widths;
@@ -53,13 +53,29 @@ pub(crate) fn bad_count(count: usize) -> bool
     limits::MOST_RECORDS < count
 }
 
+// Where entry i begins.
+fn place_in(c: Contents, i: usize) -> usize
+    requires { ⌜ Near c i ⌝ }
+    ensures { λ r. ⌜ r ≡ placeIn c i ⌝ }
+{
+    let w = c.widths;
+    c.from + layout::width(w) * i
+}
+
+// Where its offset field begins.
+fn offset_field_in(c: Contents, i: usize) -> usize
+    requires { ⌜ Near c i ⌝ }
+    ensures { λ r. ⌜ r ≡ offsetFieldIn c i ⌝ }
+{
+    place_in(c, i) + limits::LENT_BYTES
+}
+
 // Entry i.
 pub(crate) fn entry_in(s: &[u8], c: Contents, i: usize) -> Entry
     requires { ⌜ Listed c (now s) × (i < c .count) ⌝ }
     ensures { λ r. ⌜ (r ≡ entryIn c (now (s .entry)) i) × Fits r ⌝ }
 {
-    let w = c.widths;
-    layout::entry_at(s, c.from + layout::width(w) * i)
+    layout::entry_at(s, place_in(c, i))
 }
 
 // The offset of entry i, whose body is due at `due`.
@@ -68,13 +84,13 @@ pub(crate) fn offset_in(s: &[u8], c: Contents, i: usize, due: usize) -> usize
     ensures { λ r. ⌜ r ≡ offsetAt (c .widths) (now (s .entry)) (placeIn c i) due ⌝ }
 {
     let w = c.widths;
-    layout::offset_at(s, c.from + layout::width(w) * i, w, due)
+    layout::offset_at(s, place_in(c, i), w, due)
 }
 
-// Entry i, whose body is to end by `limit`.
-fn judge_entry(e: Entry, offset: usize, due: Due, limit: usize, i: usize) -> Reply
-    requires { ⌜ Fits e × (due .at ≤ limit) ⌝ }
-    ensures { λ r. ⌜ r ≡ firstOf (entryTries e offset due limit i) ⌝ }
+// Entry i, whose offset this is, and what is due of it.
+fn judge_entry(c: Contents, e: Entry, offset: usize, due: Due, i: usize) -> Reply
+    requires { ⌜ Near c i × Fits e × (due .at ≤ c .limit) ⌝ }
+    ensures { λ r. ⌜ r ≡ firstOf (entryTries c e offset due i) ⌝ }
 {
     if e.term < due.floor {
         return reply::refused(23, i as u64);
@@ -83,10 +99,10 @@ fn judge_entry(e: Entry, offset: usize, due: Due, limit: usize, i: usize) -> Rep
         return reply::refused(24, i as u64);
     }
     if offset != due.at {
-        return reply::refused(22, i as u64);
+        return reply::refused_at(22, i as u64, offset_field_in(c, i) as u64);
     }
-    if limit - due.at < layout::size_of(e) {
-        return reply::refused(22, i as u64);
+    if c.limit - due.at < layout::size_of(e) {
+        return reply::refused_at(28, i as u64, c.limit as u64);
     }
     reply::finished()
 }
@@ -104,7 +120,7 @@ fn judge_entries(s: &[u8], c: Contents) -> Reached
     while i < c.count {
         let e = entry_in(s, c, i);
         let offset = offset_in(s, c, i, due.at);
-        let r = judge_entry(e, offset, due, c.limit, i);
+        let r = judge_entry(c, e, offset, due, i);
         if r.code != 0 {
             return Reached {
                 reply: r,

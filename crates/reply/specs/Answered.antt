@@ -12,7 +12,11 @@ use Rattle.reply.specs.Tries.{Tries, firstOf, Clear, Refused}
 abbrev pub Placed : List ℕ → (n most : ℕ) → Reply → Type 0
 Placed cs n most r = (r .place ≡ 0) ⊎ ((among (r .code) cs ≡ true) × ((r .place < n) × (n ≤ most)))
 
--- r answers the tries, whose codes are cs, and has the property P, which says what places there are.
+-- A place and no position, which is "0 in every other reply" than those to a wrong body.
+abbrev pub PlacedOnly : List ℕ → (n most : ℕ) → Reply → Type 0
+PlacedOnly cs n most r = Placed cs n most r × (r .position ≡ 0)
+
+-- r answers the tries, whose codes are cs, and has the property P, which says what places and positions there are.
 pub record Answered (cs : List ℕ) (P : Reply → Type 0) (ts : Tries) (r : Reply) : Type 0 where
   -- the tries and nothing else decide
   pub decided : r ≡ firstOf ts

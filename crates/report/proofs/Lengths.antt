@@ -11,7 +11,7 @@ use Rattle.text.proofs.Pieces.{decimal-length}
 use Rattle.segment.specs.Date.{dateIn}
 use Rattle.report.specs.declared.line.Line.{Line}
 use Rattle.report.specs.Limits.{replyLength, headLength, fileLineLength, cutLength, cutsLength, lineLength}
-use Rattle.report.specs.Lines.{codeWord, placeWord, termWord, fileWord, replyText, headText, fileText, cutText, cutsText, lineText}
+use Rattle.report.specs.Lines.{codeWord, placeWord, termWord, fileWord, atWord, replyText, headText, fileText, cutText, cutsText, lineText}
 
 -- two texts, one behind the other
 both : (x y : List ℕ) (a b : ℕ) → length x ≤ a → length y ≤ b → length (x ++ y) ≤ a + b
@@ -19,18 +19,22 @@ both x y a b h k = omega (arith, length-append x y)
 
 pub reply-length : (r : Reply) → length (replyText r) ≤ replyLength
 reply-length r =
-    let end : length (decimal (r .place) ++ (10 ∷ [])) ≤ 21 = both (decimal (r .place)) (10 ∷ []) 20 1 (decimal-length (r .place)) (omega arith) in
-    let place = both placeWord (decimal (r .place) ++ (10 ∷ [])) 7 21 (omega arith) end in
-    let code = both (decimal (r .code)) (placeWord ++ (decimal (r .place) ++ (10 ∷ []))) 20 28 (decimal-length (r .code)) place in
-    both codeWord (decimal (r .code) ++ (placeWord ++ (decimal (r .place) ++ (10 ∷ [])))) 6 48 (omega arith) code
+    both codeWord (decimal (r .code) ++ (placeWord ++ decimal (r .place))) 6 47 (omega arith)
+    (both (decimal (r .code)) (placeWord ++ decimal (r .place)) 20 27 (decimal-length (r .code))
+    (both placeWord (decimal (r .place)) 7 20 (omega arith) (decimal-length (r .place))))
 
 pub head-length : (term : ℕ) (r : Reply) → length (headText term r) ≤ headLength
 head-length term r =
-    both termWord (decimal term ++ replyText r) 5 74 (omega arith)
-    (both (decimal term) (replyText r) 20 54 (decimal-length term) (reply-length r))
+    both termWord (decimal term ++ (replyText r ++ (10 ∷ []))) 5 74 (omega arith)
+    (both (decimal term) (replyText r ++ (10 ∷ [])) 20 54 (decimal-length term)
+    (both (replyText r) (10 ∷ []) 53 1 (reply-length r) (omega arith)))
 
 pub file-length : (r : Reply) → length (fileText r) ≤ fileLineLength
-file-length r = both fileWord (replyText r) 4 54 (omega arith) (reply-length r)
+file-length r =
+    both fileWord (replyText r ++ (atWord ++ (decimal (r .position) ++ (10 ∷ [])))) 4 78 (omega arith)
+    (both (replyText r) (atWord ++ (decimal (r .position) ++ (10 ∷ []))) 53 25 (reply-length r)
+    (both atWord (decimal (r .position) ++ (10 ∷ [])) 4 21 (omega arith)
+    (both (decimal (r .position)) (10 ∷ []) 20 1 (decimal-length (r .position)) (omega arith))))
 
 pub cut-length : (body : List ℕ) (s : ℕ) → length (cutText body s) ≤ cutLength
 cut-length body s =

@@ -3,7 +3,7 @@ use Prim.Native.Nat.{ℕ, zero, suc, _+_, _*_, _<_, _≤_}
 use mathlib.Core.Path.{_≡_, refl, sym, ap, _∙_}
 use mathlib.Core.List.{List, [], _∷_, _++_, append-assoc, append-nil}
 use native.Mathlib.Omega.{arith}
-use lib.ListN.{length, take, drop, getD}
+use lib.ListN.{length, take, drop, set, getD}
 use lib.Seq.{take-suc, take-length}
 use borrow.Author.Tests.{lt-ltb, le-ltb}
 use Rattle.table.specs.Num.{num, le}
@@ -32,7 +32,7 @@ use Rattle.file.specs.Contents.{entriesFrom, dueIn, countIn}
 use Rattle.file.specs.Tries.{readTries, readReply}
 use Rattle.file.specs.Items.{Item, noItem, paired, itemsOf, itemAt}
 use Rattle.file.proofs.Promises.{items-count}
-use Rattle.report.specs.Example.{exampleText}
+use Rattle.report.specs.Example.{exampleText, misplacedText, emptyText}
 use Rattle.report.specs.Limits.{linesLength, fileLineLength, costRoom, startRoom}
 use Rattle.report.specs.Lines.{headText, fileText, cutLines, termReply, linesOf, itemText}
 use Rattle.report.specs.Printed.{textOf, printed, textTo}
@@ -99,7 +99,7 @@ module _ (text out : List ℕ) where
   written-nothing h = rw (lt-ltb (length out) (length text) h) (refl, refl, refl)
 
 -- ---- a whole file
--- "A refused file prints only `file code C place P`."
+-- "A refused file prints only `file code C place P`", ` at B` behind it.
 pub printed-refused : (f : List ℕ) → (readReply f .code ≡ 0 → ⊥) → printed f ≡ fileText (readReply f)
 unfolding printed
 printed-refused f h = if-refused (readReply f) _ _ h
@@ -143,3 +143,12 @@ printed-loop f h =
 pub printed-example : printed example ≡ exampleText
 unfolding printed textOf linesOf cutLines digits dateIn solveReply some least last place earliest walk kernel namedOf A B R units judgedCount ifDone firstOf firstFrom dayAt judgedAt valuesOf readTries dueIn itemsOf paired entriesFrom entryAt field sizeOf num le
 printed-example = refl
+
+-- The example with another offset, and no bytes at all: refused files, with a position and without one.
+pub printed-misplaced : printed (set example 10 15) ≡ misplacedText
+unfolding printed digits ifDone firstOf firstFrom readTries dueIn entryAt field sizeOf num le
+printed-misplaced = refl
+
+pub printed-empty : printed [] ≡ emptyText
+unfolding printed digits ifDone firstOf firstFrom readTries num
+printed-empty = refl

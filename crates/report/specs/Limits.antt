@@ -16,15 +16,15 @@ cutsLength = cutLength * (mostSegments - 1)
 abbrev pub lineLength : ℕ
 lineLength = numberLength + 1 + numberLength + cutsLength + 1
 
--- a reply's code and place to the line's end; a term's first line; the line of a refused file
+-- a reply's code and place; a term's first line; the line of a refused file, with the position
 abbrev pub replyLength : ℕ
-replyLength = 6 + numberLength + 7 + numberLength + 1
+replyLength = 6 + numberLength + 7 + numberLength
 
 abbrev pub headLength : ℕ
-headLength = 5 + numberLength + replyLength
+headLength = 5 + numberLength + replyLength + 1
 
 abbrev pub fileLineLength : ℕ
-fileLineLength = 4 + replyLength
+fileLineLength = 4 + replyLength + 4 + numberLength + 1
 
 -- all lines of a term
 abbrev pub linesLength : ℕ

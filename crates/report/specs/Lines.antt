@@ -16,7 +16,7 @@ use Rattle.text.specs.Text.{decimal}
 use Rattle.report.specs.declared.line.Line.{Line}
 use Rattle.report.specs.Limits.{costRoom, startRoom}
 
--- the bytes of `term `, ` code `, ` place ` and `file`
+-- the bytes of `term `, ` code `, ` place `, `file` and ` at `
 abbrev pub termWord : List ℕ
 termWord = 116 ∷ 101 ∷ 114 ∷ 109 ∷ 32 ∷ []
 
@@ -29,17 +29,20 @@ placeWord = 32 ∷ 112 ∷ 108 ∷ 97 ∷ 99 ∷ 101 ∷ 32 ∷ []
 abbrev pub fileWord : List ℕ
 fileWord = 102 ∷ 105 ∷ 108 ∷ 101 ∷ []
 
--- a reply's code and place, to the line's end (10)
+abbrev pub atWord : List ℕ
+atWord = 32 ∷ 97 ∷ 116 ∷ 32 ∷ []
+
+-- a reply's code and place
 abbrev pub replyText : Reply → List ℕ
-replyText r = codeWord ++ (decimal (r .code) ++ (placeWord ++ (decimal (r .place) ++ (10 ∷ []))))
+replyText r = codeWord ++ (decimal (r .code) ++ (placeWord ++ decimal (r .place)))
 
--- "The first line is the term number, code and place."
+-- "The first line is the term number, code and place", to the line's end (10)
 abbrev pub headText : ℕ → Reply → List ℕ
-headText term r = termWord ++ (decimal term ++ replyText r)
+headText term r = termWord ++ (decimal term ++ (replyText r ++ (10 ∷ [])))
 
--- "A refused file prints only `file code C place P`."
+-- "A refused file prints only `file code C place P`", and the position "ends a refused file's line after `at`".
 abbrev pub fileText : Reply → List ℕ
-fileText r = fileWord ++ replyText r
+fileText r = fileWord ++ (replyText r ++ (atWord ++ (decimal (r .position) ++ (10 ∷ []))))
 
 -- "for each segment after the first its first index, a colon and its change date", each behind a space (32); 58 is the colon
 abbrev pub pairText : ℕ → ℕ → List ℕ

@@ -11,7 +11,7 @@ unfoldable pub textOf : List Item → List ℕ
 textOf [] = []
 textOf (x ∷ xs) = itemText x ++ textOf xs
 
--- "A refused file prints only `file code C place P`", and an accepted one each term's lines in order
+-- "A refused file prints only" its line, and an accepted one each term's lines in order
 unfoldable pub printed : List ℕ → List ℕ
 printed f = ifDone (readReply f) (textOf (itemsOf f)) (fileText (readReply f))
 

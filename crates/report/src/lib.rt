@@ -3,6 +3,8 @@ mod line;
 mod term;
 mod written;
 
+pub use term::LINE_ROOM;
+pub use term::TEXT_ROOM;
 pub use term::file_line;
 pub use term::lines;
 pub use term::term_lines;

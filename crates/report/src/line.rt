@@ -5,8 +5,8 @@ ghost use lib.ListN.{length};
 ghost use lib.Seq.{slice};
 ghost use Rattle.cutting.specs.Limits.{mostSegments};
 ghost use Rattle.text.specs.Text.{Put};
-ghost use Rattle.report.specs.Limits.{farthest, cutsLength, lineLength};
-ghost use Rattle.report.specs.Lines.{replyText, headText, pairText, cutsText, lineText};
+ghost use Rattle.report.specs.Limits.{farthest, replyLength, cutsLength, lineLength};
+ghost use Rattle.report.specs.Lines.{replyText, headText, fileText, pairText, cutsText, lineText};
 use record::Day;
 use record::Index;
 use reply::Reply;
@@ -25,15 +25,15 @@ pub struct Line {
 }
 
 // The code and the place of a reply.
-pub fn put_reply(out: &mut [u8], at: usize, r: Reply) -> usize
+fn put_reply(out: &mut [u8], at: usize, r: Reply) -> usize
     requires { ⌜ at < farthest ⌝ }
     ensures { λ next. ⌜ Put (now (out .entry)) at (replyText r) (now (out .exit)) next ⌝ }
+    ensures { λ next. ⌜ next ≤ at + replyLength ⌝ }
 {
     let code = text::put_word(out, at, b" code ");
     let place = text::put_number(out, code, r.code);
     let number = text::put_word(out, place, b" place ");
-    let end = text::put_number(out, number, r.place);
-    text::put_byte(out, end, LINE_END)
+    text::put_number(out, number, r.place)
 }
 
 // The first line of a term.
@@ -41,8 +41,20 @@ pub fn put_head(out: &mut [u8], term: u64, r: Reply) -> usize
     ensures { λ next. ⌜ Put (now (out .entry)) 0 (headText term r) (now (out .exit)) next ⌝ }
 {
     let number = text::put_word(out, 0, b"term ");
-    let end = text::put_number(out, number, term);
-    put_reply(out, end, r)
+    let code = text::put_number(out, number, term);
+    let end = put_reply(out, code, r);
+    text::put_byte(out, end, LINE_END)
+}
+
+// The line of a refused file: code, place and position.
+pub fn put_refused(out: &mut [u8], r: Reply) -> usize
+    ensures { λ next. ⌜ Put (now (out .entry)) 0 (fileText r) (now (out .exit)) next ⌝ }
+{
+    let code = text::put_word(out, 0, b"file");
+    let at = put_reply(out, code, r);
+    let number = text::put_word(out, at, b" at ");
+    let end = text::put_number(out, number, r.position);
+    text::put_byte(out, end, LINE_END)
 }
 
 // One cut: a space, the segment's first index, a colon and its change date.

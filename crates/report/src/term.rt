@@ -28,9 +28,9 @@ const START_ROOM: usize = cutting::START_BYTES
     * (cutting::MOST_OBSERVATIONS + 1);
 
 // Room for all lines of a term, and for the line of a refused file.
-const TEXT_ROOM: usize = 6200;
+pub const TEXT_ROOM: usize = 6200;
 
-const LINE_ROOM: usize = 64;
+pub const LINE_ROOM: usize = 96;
 
 // A term's number, and what is asked of its record.
 struct Term {
@@ -116,7 +116,6 @@ pub fn file_line(r: Reply, out: &mut [u8]) -> Written
     ensures { λ _. ⌜ now (out .exit) ≡ outLeft (fileText r) (now (out .entry)) ⌝ }
 {
     let mut text = [0u8; LINE_ROOM];
-    let at = text::put_word(&mut text, 0, b"file");
-    let len = line::put_reply(&mut text, at, r);
+    let len = line::put_refused(&mut text, r);
     written::hand_over(&text, len, out)
 }

@@ -2,7 +2,7 @@
 use Prim.Native.Nat.{_-_}
 use native.Mathlib.Omega.{arith}
 use borrow.Author.Needs.{needs}
-use Rattle.file.proofs.Judging.{Walking, walking-begun, walking-done, walking-stop, walking-room, walking-more}
+use Rattle.file.proofs.Judging.{place-near, Walking, walking-begun, walking-done, walking-stop, walking-room, walking-more}
 use Rattle.file.proofs.contents.judge_entries.Statement.{statement}
 use Rattle.file.proofs.contents.judge_entries.Tie as tie
 
@@ -22,7 +22,9 @@ offset-in-requires : tie.Need-offset-in-requires Inv-loop μ-loop
 offset-in-requires c κs = search needs
 
 judge-entry-requires : tie.Need-judge-entry-requires Inv-loop μ-loop
-judge-entry-requires c κs = search needs
+judge-entry-requires c κs =
+    let near = place-near _ _ (c .before .before .before .before .loop .inv .given) _ (c .before .before .if1 .taken) (omega arith) in
+    search needs
 
 returns : tie.Need-returns Inv-loop μ-loop
 returns c =

@@ -1,8 +1,6 @@
 -- `file::reader::read_file` meets its contract. Assumes nothing.
 use borrow.Author.Needs.{needs}
-use Rattle.reply.proofs.Answers.{answers, by-code}
-use Rattle.file.specs.Tries.{readTries}
-use Rattle.file.proofs.Replies.{read-listed, read-bad, read-short, read-judged}
+use Rattle.file.proofs.Replies.{read-long, read-none, read-listed, read-bad, read-short, read-judged}
 use Rattle.file.proofs.reader.read_file.Statement.{statement}
 use Rattle.file.proofs.reader.read_file.Tie as tie
 
@@ -10,15 +8,13 @@ refused-requires : tie.Need-refused-requires
 refused-requires c κs = search needs
 
 returns : tie.Need-returns
-unfolding readTries
-returns c = search (by-code, answers)
+returns c = search read-long
 
 refused-requires-2 : tie.Need-refused-requires-2
 refused-requires-2 c κs = search needs
 
 returns-2 : tie.Need-returns-2
-unfolding readTries
-returns-2 c = search (by-code, answers)
+returns-2 c = search read-none
 
 contents-of-requires : tie.Need-contents-of-requires
 contents-of-requires c κs = search needs

@@ -1,9 +1,7 @@
 -- `file::writer::judge_write` meets its contract. Assumes nothing.
 use native.Mathlib.Omega.{arith}
 use borrow.Author.Needs.{needs}
-use Rattle.reply.proofs.Answers.{answers, by-code}
-use Rattle.file.specs.Tries.{writeTries}
-use Rattle.file.proofs.Replies.{write-listed, write-bad, write-stop, write-room}
+use Rattle.file.proofs.Replies.{write-cut, write-listed, write-bad, write-stop, write-room}
 use Rattle.file.proofs.Judging.{few}
 use Rattle.file.proofs.writer.judge_write.Statement.{statement}
 use Rattle.file.proofs.writer.judge_write.Tie as tie
@@ -12,8 +10,7 @@ refused-requires : tie.Need-refused-requires
 refused-requires c κs = search needs
 
 returns : tie.Need-returns
-unfolding writeTries
-returns c = search (by-code, answers)
+returns c = search write-cut
 
 lent-in-requires : tie.Need-lent-in-requires
 lent-in-requires c κs = search needs

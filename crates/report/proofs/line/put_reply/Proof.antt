@@ -18,26 +18,24 @@ slice-aggregate-put-word-2 : tie.Need-slice-aggregate-put-word-2
 slice-aggregate-put-word-2 c = search needs
 
 put-word-requires-2 : tie.Need-put-word-requires-2
-put-word-requires-2 c κs = omega arith
+put-word-requires-2 c κs = search needs
 
 put-number-requires-2 : tie.Need-put-number-requires-2
-put-number-requires-2 c κs = omega arith
-
-put-byte-requires : tie.Need-put-byte-requires
-put-byte-requires c κs = omega arith
+put-number-requires-2 c κs = search needs
 
 same-length : tie.Need-same-length
 same-length c = search needs
 
 returns : tie.Need-returns
 returns c =
-    let byte = c .before .before in
-    let number2 = byte .before .before .before .before in
+    let number2 = c .before .before in
     let word2 = number2 .before .before .before .before in
     let number = word2 .before .before .before .before .before in
-    let word = number .before .before .before .before in
-    then (word .put-word .ensures)
-    (then (number .put-number .ensures .0) (then (word2 .put-word2 .ensures) (then (number2 .put-number2 .ensures .0) (byte .put-byte .ensures))))
+    let word = number .before .before .before .before in (
+      then (word .put-word .ensures)
+          (then (number .put-number .ensures .0) (then (word2 .put-word2 .ensures) (number2 .put-number2 .ensures .0))),
+      omega arith,
+    )
 
 pub put-reply-spec : {M : Type 1} → statement M
 put-reply-spec =
@@ -49,6 +47,5 @@ put-reply-spec =
     slice-aggregate-put-word-2
     put-word-requires-2
     put-number-requires-2
-    put-byte-requires
     same-length
     returns)

@@ -6,43 +6,26 @@ use native.Mathlib.Omega.{arith}
 use lib.ListN.{length}
 use denote.Ref.{now}
 use borrow.Author.Needs.{needs}
-use Rattle.text.proofs.Pieces.{then, front, put-length}
+use Rattle.text.proofs.Pieces.{front, put-length}
 use Rattle.report.specs.Written.{writtenOf, outLeft}
-use Rattle.report.proofs.Lengths.{file-length, reply-length}
+use Rattle.report.proofs.Lengths.{file-length}
 use Rattle.report.proofs.term.file_line.Statement.{statement}
 use Rattle.report.proofs.term.file_line.Tie as tie
 
-slice-aggregate-put-word : tie.Need-slice-aggregate-put-word
-slice-aggregate-put-word c = search needs
+slice-aggregate-put-refused : tie.Need-slice-aggregate-put-refused
+slice-aggregate-put-refused c = search needs
 
-slice-aggregate-put-word-2 : tie.Need-slice-aggregate-put-word-2
-slice-aggregate-put-word-2 c = search needs
-
-put-word-requires : tie.Need-put-word-requires
-put-word-requires c κs = search needs
-
-slice-aggregate-put-reply : tie.Need-slice-aggregate-put-reply
-slice-aggregate-put-reply c = search needs
-
-put-reply-requires : tie.Need-put-reply-requires
-put-reply-requires c κs = search needs
+put-refused-requires : tie.Need-put-refused-requires
+put-refused-requires c κs = search needs
 
 slice-aggregate-hand-over : tie.Need-slice-aggregate-hand-over
 slice-aggregate-hand-over c = search needs
 
 hand-over-requires : tie.Need-hand-over-requires
 hand-over-requires c κs =
-    let reply = c .before .before .before in
-    let word = reply .before .before .before in
-    let s = word .before .before .before .before in
-    omega (
-      arith,
-      reply .put-reply .ensures .end,
-      put-length (reply .put-reply .ensures),
-      word .put-word .ensures .end,
-      put-length (word .put-word .ensures),
-      reply-length (s .args .r),
-    )
+    let line = c .before .before .before in
+    let put = line .put-refused .ensures in
+    omega (arith, put .end, put-length put, file-length (line .before .before .before .args .r))
 
 same-length : tie.Need-same-length
 same-length c = search needs
@@ -50,11 +33,10 @@ same-length c = search needs
 returns : tie.Need-returns
 returns c =
     let h = c .before .before in
-    let reply = h .before .before .before .before in
-    let word = reply .before .before .before in
-    let s = word .before .before .before .before in
+    let line = h .before .before .before .before in
+    let s = line .before .before .before in
     let short = file-length (s .args .r) in
-    let text = front (then (word .put-word .ensures) (reply .put-reply .ensures)) (omega arith) in (
+    let text = front (line .put-refused .ensures) (omega arith) in (
       h .hand-over .ensures .0 ∙ ap (λ (t : List ℕ). writtenOf t (length (now (s .args .out)))) text,
       h .hand-over .ensures .1 ∙ ap (λ (t : List ℕ). outLeft t (now (s .args .out))) text,
     )
@@ -63,11 +45,8 @@ pub file-line-spec : {M : Type 1} → statement M
 file-line-spec =
     tie.close
     (tie.spec
-    slice-aggregate-put-word
-    slice-aggregate-put-word-2
-    put-word-requires
-    slice-aggregate-put-reply
-    put-reply-requires
+    slice-aggregate-put-refused
+    put-refused-requires
     slice-aggregate-hand-over
     hand-over-requires
     same-length
