@@ -6,8 +6,9 @@
  *
  * For every record it prints the term, the reply's code and place, then for every
  * count of segments the least cost in units and, for each segment after the first,
- * its first index and its change date. A refusal is also told in a sentence on
- * standard error.
+ * its first index and its change date. Of a refused file it prints one line, the
+ * reply's code, place and position. A refusal is also told in a sentence on standard
+ * error.
  */
 #include "tawinrak.h"
 
@@ -70,6 +71,8 @@ static void tell(const char *who, uint64_t reply)
     fprintf(stderr, "%s: %s", who, tawinrak_text(code));
     if (tawinrak_counted(code)[0] != '\0')
         fprintf(stderr, ", at %s %u", tawinrak_counted(code), TAWINRAK_PLACE(reply));
+    if (TAWINRAK_POSITION(reply) != 0)
+        fprintf(stderr, ", byte %u", TAWINRAK_POSITION(reply));
     fprintf(stderr, " (code %u)\n", code);
 }
 
@@ -108,7 +111,7 @@ static int print_file(size_t length)
     int status = ALL_DONE;
     uint64_t reply = tawinrak_read_file(file, length);
     if (TAWINRAK_CODE(reply) != TAWINRAK_DONE) {
-        printf("file code %u place %u\n", TAWINRAK_CODE(reply), TAWINRAK_PLACE(reply));
+        printf("file code %u place %u at %u\n", TAWINRAK_CODE(reply), TAWINRAK_PLACE(reply), TAWINRAK_POSITION(reply));
         tell("file", reply);
         return FILE_REFUSED;
     }

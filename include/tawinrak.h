@@ -70,11 +70,15 @@
  *   works on a thread whose whole stack is 16 KiB.
  *
  * Replies
- *   Each call returns one number, code + 256 * place: TAWINRAK_CODE and
- *   TAWINRAK_PLACE take it apart. Code 0 is "done". With any other code nothing
- *   lent was written. The place is 0 unless TAWINRAK_REPLIES says what it counts,
- *   and counts from 0. Every input, however damaged, gets a reply. Where several
- *   codes apply, the one that the function's list names first is given.
+ *   Each call returns one number, code + 256 * place + 4,294,967,296 * position:
+ *   TAWINRAK_CODE, TAWINRAK_PLACE and TAWINRAK_POSITION take it apart. Code 0 is
+ *   "done". With any other code nothing lent was written. The place is 0 unless
+ *   TAWINRAK_REPLIES says what it counts, and counts from 0. The position is a
+ *   byte position, and 0 in every reply but those of two codes. With 22 it is
+ *   where the entry's offset field begins in the file. With 28 it is the length
+ *   of the file, or in tawinrak_write_file that of the run of bodies, which may
+ *   be 0. Every input, however damaged, gets a reply. Where several codes apply,
+ *   the one that the function's list names first is given.
  */
 #ifndef TAWINRAK_H
 #define TAWINRAK_H
@@ -87,11 +91,12 @@ extern "C" {
 #endif
 
 /* The version of this header, of the archive and of the programs beside it. */
-#define TAWINRAK_VERSION "1.0"
+#define TAWINRAK_VERSION "1.1"
 
 /* A reply taken apart. */
 #define TAWINRAK_CODE(reply) ((unsigned)((reply) & 255u))
 #define TAWINRAK_PLACE(reply) ((unsigned)(((reply) >> 8) & 0xFFFFFFu))
+#define TAWINRAK_POSITION(reply) ((unsigned)((uint64_t)(reply) >> 32))
 
 /* The codes. */
 #define TAWINRAK_DONE 0u
@@ -117,6 +122,7 @@ extern "C" {
 #define TAWINRAK_BYTES_LEFT_OVER 25u
 #define TAWINRAK_FILE_TOO_LONG 26u
 #define TAWINRAK_OUTPUT_TOO_SHORT 27u
+#define TAWINRAK_BODY_PAST_END 28u
 
 /* Each code, what its place counts ("" where the place is 0), and what it says. */
 #define TAWINRAK_REPLIES(REPLY) \
@@ -137,12 +143,13 @@ extern "C" {
     REPLY(TAWINRAK_NO_STRETCH, "", "the stretch is empty or passes the record's end, or the index has no change date") \
     REPLY(TAWINRAK_FILE_TOO_SHORT, "", "the count of records, or the contents, are cut short") \
     REPLY(TAWINRAK_RECORD_COUNT, "", "the count of records is 0 or above 64") \
-    REPLY(TAWINRAK_BODY_MISPLACED, "entry", "a body does not start where the one before ends, or passes the end") \
+    REPLY(TAWINRAK_BODY_MISPLACED, "entry", "the offset is not where the body is due, right after the body or the contents before it") \
     REPLY(TAWINRAK_TERM_NOT_ABOVE, "entry", "a term is not above the term before it") \
     REPLY(TAWINRAK_UNKNOWN_KIND, "entry", "the sample kind is not 0 or 1") \
     REPLY(TAWINRAK_BYTES_LEFT_OVER, "", "there are bytes after the last body") \
     REPLY(TAWINRAK_FILE_TOO_LONG, "", "the file is longer than 65,536 bytes") \
-    REPLY(TAWINRAK_OUTPUT_TOO_SHORT, "", "the lent output is too short for the file")
+    REPLY(TAWINRAK_OUTPUT_TOO_SHORT, "", "the lent output is too short for the file") \
+    REPLY(TAWINRAK_BODY_PAST_END, "entry", "the body passes the end")
 
 #define TAWINRAK_TEXT_CASE(code, counted, text) case code: return text;
 #define TAWINRAK_COUNTED_CASE(code, counted, text) case code: return counted;
@@ -247,7 +254,8 @@ uint64_t tawinrak_read_cuts(const uint8_t *starts, size_t starts_len, uint64_t n
  * Writes: nothing.
  *
  * Tries, in this order: 26, 20 (no room for the count), 21, 20 (no room for the
- * contents), then entry by entry 23, 24, 22, then 25.
+ * contents), then entry by entry 23, 24, 22, 28, then 25. So an offset that is
+ * not where its body is due is 22 even where that body would also pass the end.
  */
 uint64_t tawinrak_read_file(const uint8_t *file, size_t file_len);
 
@@ -262,7 +270,8 @@ uint64_t tawinrak_read_file(const uint8_t *file, size_t file_len);
  * are always enough. Bytes of out after the file keep their values.
  *
  * Tries, in this order: 20 (a last entry cut short), 21, then entry by entry 23,
- * 24, 22 (the run ends inside that body), then 25 (bytes left over), 26, 27.
+ * 24, 28 (the run ends inside that body), then 25 (bytes left over), 26, 27.
+ * Since 26 comes later, the position of 28 may be above 65,536.
  */
 uint64_t tawinrak_write_file(const uint8_t *entries, size_t entries_len,
                              const uint8_t *bodies, size_t bodies_len, uint8_t *out, size_t out_len);

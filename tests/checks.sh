@@ -64,6 +64,7 @@ check_archive() {
     check "the archive keeps no state" has_no_state
     check "the archive has the functions" has_the_functions
     check "calls at the same time" "$made/together.sh"
+    check "the largest positions" "$made/positions.sh"
     check "the header in C" header_alone c "$CC" -std=c99
     if command -v c++ >/dev/null 2>&1; then check "the header in C++" header_alone c++ c++ -std=c++11; fi
 }
@@ -127,9 +128,9 @@ no_input() {
 }
 
 check_cuts() {
-    check "cuts on an empty input" prints "file code 20 place 0$newline" cuts_of /dev/null
-    check "cuts on an endless input" prints "file code 26 place 0$newline" cuts_of /dev/zero
-    check "cuts on an endless pipe" prints "file code 26 place 0$newline" cuts_of_endless_pipe
+    check "cuts on an empty input" prints "file code 20 place 0 at 0$newline" cuts_of /dev/null
+    check "cuts on an endless input" prints "file code 26 place 0 at 0$newline" cuts_of /dev/zero
+    check "cuts on an endless pipe" prints "file code 26 place 0 at 0$newline" cuts_of_endless_pipe
     check "cuts into a closed pipe" closed_pipe :
     check "cuts into a closed pipe, SIGPIPE ignored" closed_pipe "trap '' PIPE"
     check "cuts into a full device" full_output

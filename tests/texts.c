@@ -1,19 +1,26 @@
 /*
- * texts.c: prints the header's version, then for every code that has words the sentence
- * of a term 1 that is refused with it at place 3, in the form that ./cuts uses.
+ * texts.c: prints the header's version, then for every code that has words the sentence of
+ * a term 1 that is refused with it at place 3, and that of a file that is refused with it at
+ * place 3 and position 70, in the form that ./cuts uses.
  */
 #include "tawinrak.h"
 
 #include <stdio.h>
 #include <string.h>
 
-static void print_sentence(unsigned code)
+static void print_sentence(const char *who, unsigned code, const char *position)
 {
     const char *counted = tawinrak_counted(code);
-    printf("term 1: %s", tawinrak_text(code));
+    printf("%s: %s", who, tawinrak_text(code));
     if (strlen(counted) > 0)
         printf(", at %s 3", counted);
-    printf(" (code %u)\n", code);
+    printf("%s (code %u)\n", position, code);
+}
+
+static void print_sentences(unsigned code)
+{
+    print_sentence("term 1", code, "");
+    print_sentence("file", code, ", byte 70");
 }
 
 int main(void)
@@ -22,6 +29,6 @@ int main(void)
     printf("Tawinrak %s\n", TAWINRAK_VERSION);
     for (unsigned code = 1; code < 256; code++)
         if (strcmp(tawinrak_text(code), no_code) != 0)
-            print_sentence(code);
+            print_sentences(code);
     return strcmp(tawinrak_text(TAWINRAK_DONE), "done") == 0 && strlen(tawinrak_counted(255)) == 0 ? 0 : 1;
 }

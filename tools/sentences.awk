@@ -3,8 +3,13 @@
 #
 #   awk -f tools/sentences.awk include/tawinrak.h LINES
 
-function sentence(who, code, place) {
-    print who ": " text[code] (counted[code] == "" ? "" : ", at " counted[code] " " place) " (code " code ")"
+# Where a refusal is: the place, if the code counts one, and the byte position, if it is not 0.
+function where(code, place, position) {
+    return (counted[code] == "" ? "" : ", at " counted[code] " " place) (position + 0 == 0 ? "" : ", byte " position)
+}
+
+function sentence(who, code, place, position) {
+    print who ": " text[code] where(code, place, position) " (code " code ")"
 }
 
 FNR == NR && $1 == "#define" && $3 ~ /^[0-9]+u$/ { number[$2] = $3 + 0 }
@@ -19,6 +24,6 @@ FNR == NR && /^ *REPLY\(/ {
 
 FNR == NR { next }
 
-$1 == "file" { sentence("file", $3, $5) }
+$1 == "file" { sentence("file", $3, $5, $7) }
 
-$1 == "term" && $4 != 0 { sentence("term " $2, $4, $6) }
+$1 == "term" && $4 != 0 { sentence("term " $2, $4, $6, 0) }

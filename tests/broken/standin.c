@@ -8,9 +8,9 @@
 
 #include <string.h>
 
-static uint64_t reply_at(uint64_t code, uint64_t place)
+static uint64_t reply_at(uint64_t code, uint64_t place, uint64_t position)
 {
-    return code + 256 * place;
+    return code + 256 * place + UINT64_C(4294967296) * position;
 }
 
 static uint64_t number_at(const uint8_t *bytes, unsigned width)
@@ -73,9 +73,9 @@ uint64_t tawinrak_read_cuts(const uint8_t *starts, size_t starts_len, uint64_t n
 static uint64_t judge_entry(const uint8_t *entry, const uint8_t *before, uint64_t place)
 {
     if (before != NULL && number_at(entry, 2) <= number_at(before, 2))
-        return reply_at(TAWINRAK_TERM_NOT_ABOVE, place);
+        return reply_at(TAWINRAK_TERM_NOT_ABOVE, place, 0);
     if (entry[3] > 1)
-        return reply_at(TAWINRAK_UNKNOWN_KIND, place);
+        return reply_at(TAWINRAK_UNKNOWN_KIND, place, 0);
     return TAWINRAK_DONE;
 }
 
@@ -88,8 +88,11 @@ static uint64_t judge_contents(const uint8_t *file, size_t file_len, uint64_t co
         if (reply != TAWINRAK_DONE)
             return reply;
         uint64_t body = TAWINRAK_OBSERVATION_BYTES * number_at(entry + 6, 2);
-        if (number_at(entry + 8, 4) != end || end + body > file_len)
-            return reply_at(TAWINRAK_BODY_MISPLACED, i);
+        const uint8_t *offset = entry + TAWINRAK_ENTRY_BYTES;
+        if (number_at(offset, 4) != end)
+            return reply_at(TAWINRAK_BODY_MISPLACED, i, (uint64_t)(offset - file));
+        if (end + body > file_len)
+            return reply_at(TAWINRAK_BODY_PAST_END, i, file_len);
         end += body;
     }
     return end < file_len ? TAWINRAK_BYTES_LEFT_OVER : TAWINRAK_DONE;
@@ -119,7 +122,7 @@ static uint64_t judge_entries(const uint8_t *entries, uint64_t count, size_t bod
             return reply;
         end += TAWINRAK_OBSERVATION_BYTES * number_at(entry + 6, 2);
         if (end > bodies_len)
-            return reply_at(TAWINRAK_BODY_MISPLACED, i);
+            return reply_at(TAWINRAK_BODY_PAST_END, i, bodies_len);
     }
     return end < bodies_len ? TAWINRAK_BYTES_LEFT_OVER : TAWINRAK_DONE;
 }

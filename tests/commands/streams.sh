@@ -40,11 +40,11 @@ check_streams() {
     check "standard input closed, and a file" answers 0 "$year" "" shell '"$root/cuts" <&-'
     check "standard output closed" answers 3 "" "cuts: standard output is closed$newline" shell '"$root/cuts" >&-'
     check "standard error closed" answers 0 "$year" "" shell '"$root/cuts" 2>&-'
-    check "standard error closed, a refusal" answers 2 "file code 20 place 0$newline" "" shell '"$root/cuts" "$made/20.record" 2>&-'
+    check "standard error closed, a refusal" answers 2 "file code 20 place 0 at 0$newline" "" shell '"$root/cuts" "$made/20.record" 2>&-'
     check "all streams closed" ends_with 3 shell '"$root/cuts" - <&- >&- 2>&-'
     check "a full disk" answers 3 "" "cuts: standard output cannot be written$newline" shell '"$root/cuts" >/dev/full'
     check "a full disk for help" ends_with 3 shell '"$root/cuts" --help >/dev/full'
-    check "a full disk for sentences" answers 2 "file code 20 place 0$newline" "" shell '"$root/cuts" "$made/20.record" 2>/dev/full'
+    check "a full disk for sentences" answers 2 "file code 20 place 0 at 0$newline" "" shell '"$root/cuts" "$made/20.record" 2>/dev/full'
     check "a full disk for why there is no answer" ends_with 3 shell '"$root/cuts" /nowhere 2>/dev/full'
     check "a reader that is gone" reader_gone : ""
     check "a reader that is gone, SIGPIPE ignored" reader_gone "trap '' PIPE" "cuts: standard output cannot be written"

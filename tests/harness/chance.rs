@@ -93,7 +93,10 @@ pub fn damaged_file(rng: &mut Rng) -> Vec<u8> {
         0 => damage(rng, &mut file, 3),
         1 => damage(rng, &mut head, 2),
         2 => damage(rng, &mut head, 1),
-        _ => head.truncate(rng.below(head.len() + 1)),
+        _ => {
+            head.truncate(rng.below(head.len() + 1));
+            file.truncate(if rng.chance(50) { 0 } else { file.len() });
+        }
     }
     if rng.chance(4) {
         file.resize(65_530 + rng.below(40), 7);

@@ -7,13 +7,7 @@ use second::record::OBSERVATION;
 /// The first difference in words, or none.
 pub fn between(request: &Request, expected: &Left, got: &Left) -> Option<String> {
     if expected.reply != got.reply {
-        return Some(format!(
-            "reply: expected code {} place {}, got code {} place {}",
-            expected.reply % 256,
-            expected.reply / 256,
-            got.reply % 256,
-            got.reply / 256
-        ));
+        return Some(format!("reply: expected {}, got {}", expected.parts().in_words(), got.parts().in_words()));
     }
     let names = request.call.slice_names();
     (0..names.len()).find_map(|which| in_slice(request, which, &expected.slices[which], &got.slices[which]))

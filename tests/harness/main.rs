@@ -16,6 +16,7 @@ mod packing;
 mod paper;
 mod peers;
 mod plan;
+mod positions;
 mod printers;
 mod printing;
 mod program;

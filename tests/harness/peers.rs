@@ -7,7 +7,7 @@ use crate::options::Options;
 use crate::packed::Packed;
 use crate::printers::Printer;
 use crate::program::{run, Feeding};
-use crate::request::{Left, Request};
+use crate::request::{Left, Parts, Request};
 use std::path::PathBuf;
 
 /// What became of a case; an error says what differs.
@@ -74,6 +74,17 @@ impl Peers {
             return Ok(left);
         }
         let words = format!("meant for code {}, got {}", code, left.code());
+        Err(self.told(request, &words))
+    }
+
+    /// Runs a call that is meant to be answered with the code at the place, with the position.
+    pub fn call_at(&mut self, code: u64, place: usize, position: usize, request: &Request) -> Outcome {
+        let meant = Parts { code, place: place as u64, position: position as u64 };
+        let got = self.call(request)?.parts();
+        if got == meant {
+            return Ok(());
+        }
+        let words = format!("meant for {}, got {}", meant.in_words(), got.in_words());
         Err(self.told(request, &words))
     }
 

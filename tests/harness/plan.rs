@@ -3,7 +3,9 @@
 use crate::peers::{Outcome, Peers};
 use crate::records::Look;
 use crate::rng::Rng;
-use crate::{chance, damage, edges, packing, paper, printing, reading, relations, shares, solving, walking, writing};
+use crate::{
+    chance, damage, edges, packing, paper, positions, printing, reading, relations, shares, solving, walking, writing,
+};
 
 /// Runs the case with the index within its family.
 type Run = fn(&mut Rng, usize, &mut Peers) -> Outcome;
@@ -110,12 +112,18 @@ fn files() -> Vec<Family> {
         family("files of a size", reading::SIZED, reading::sized),
         family("files refused on purpose", reading::ALONE, reading::alone),
         family("files refused for two reasons", reading::TOGETHER, reading::together),
+        family("wrong offsets at every entry", positions::FULL, positions::misplaced),
+        family("bodies past the end at every entry", positions::FULL, positions::past_end),
+        family("the first of two faults of entries read", positions::READ_TWO, positions::read_two),
         by_chance("files by chance", 500, chance::read_file),
         family("files written and read back", 160, writing::there_and_back),
         family("outputs of a length", writing::OUTS, writing::outs),
         family("files written of a size", writing::SIZED, writing::sized),
         family("writes refused on purpose", writing::ALONE, writing::alone),
         family("writes refused for two reasons", writing::TOGETHER, writing::together),
+        family("runs that end in every body", positions::FULL, positions::run_ends),
+        family("runs of a length", positions::LONG_RUNS, positions::long_run),
+        family("the first of two faults of entries written", positions::WRITE_TWO, positions::write_two),
         by_chance("writes by chance", 400, chance::write_file),
     ]
 }
@@ -141,6 +149,7 @@ fn programs() -> Vec<Family> {
         family("files of a size printed", printing::SIZED, printing::sized),
         family("the example cut short printed", 50, printing::cut_short),
         family("the example with a bit flipped printed", 200, printing::flipped),
+        family("wrong bodies printed", printing::WRONG, printing::wrong_body),
         by_chance("damaged files printed", 150, printing::damaged),
         family("one term in two files printed", 30, printing::same_term),
     ]

@@ -1,13 +1,15 @@
 //! Files given to the programs that print cuts: sound, damaged and as large as can be.
 
 use crate::chance::damaged_file;
-use crate::files::{file_of, of_lengths, sound, Entry};
+use crate::files::{field_at, file_of, of_lengths, sound, Entry, OFFSET};
 use crate::paper::example;
 use crate::peers::{Outcome, Peers};
 use crate::program::Feeding;
 use crate::reading::of_size;
 use crate::rng::Rng;
 use second::cuttings::MOST;
+use second::file::{COUNT, FILE_ENTRY};
+use second::record::OBSERVATION;
 
 fn feeding(rng: &mut Rng, length: usize) -> Feeding {
     match rng.below(3) {
@@ -87,6 +89,31 @@ pub fn flipped(rng: &mut Rng, index: usize, peers: &mut Peers) -> Outcome {
     let bit = 2 * index + rng.below(2);
     file[bit / 8] ^= 1 << (bit % 8);
     print(rng, peers, &file)
+}
+
+/// A full file with a wrong offset, or cut short inside a body, at some of its entries.
+const WRONG_AT: [usize; 6] = [0, 1, 9, 31, 62, 63];
+pub const WRONG: usize = 2 * WRONG_AT.len();
+
+pub fn wrong_body(rng: &mut Rng, index: usize, peers: &mut Peers) -> Outcome {
+    let entry = WRONG_AT[index / 2];
+    let mut file = file_of(&of_lengths(rng, &[2; 64]));
+    let at = field_at(entry, OFFSET);
+    let due = if index % 2 == 0 {
+        file[at + rng.below(OFFSET.1)] ^= 1 + rng.below(255) as u8;
+        format!("file code 22 place {} at {}\n", entry, at)
+    } else {
+        let begin = COUNT + FILE_ENTRY * 64 + 2 * OBSERVATION * entry;
+        file.truncate(begin + rng.below(2 * OBSERVATION));
+        format!("file code 28 place {} at {}\n", entry, file.len())
+    };
+    let feeding = feeding(rng, file.len());
+    let printed = peers.cuts(&file, feeding)?;
+    if printed == due {
+        Ok(())
+    } else {
+        Err(format!("meant for {:?}, got {:?}", due, printed))
+    }
 }
 
 /// A file damaged by chance.

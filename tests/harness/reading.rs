@@ -140,7 +140,7 @@ pub fn sized(rng: &mut Rng, index: usize, peers: &mut Peers) -> Outcome {
 /// Damage that is meant for a code, done to the entry; the entry is not the first for 23.
 type Fault = (u64, fn(&mut Rng, &mut Vec<u8>, usize));
 
-const FAULTS: [Fault; 9] = [
+const FAULTS: [Fault; 10] = [
     (26, |rng, file, _| file.extend(rng.bytes(65_537))),
     (20, |rng, file, _| file.truncate(rng.below(2))),
     (21, |rng, file, _| put(file, 0, COUNT, rng.pick(&[0, 65, 256, 65_535]))),
@@ -154,7 +154,11 @@ const FAULTS: [Fault; 9] = [
     }),
     (24, |rng, file, entry| put(file, field_at(entry, KIND), 1, rng.pick(&[2, 3, 128, 255]))),
     (22, |rng, file, entry| set_beside(file, entry, OFFSET, 3 + rng.below(6))),
-    (22, |_, file, entry| put(file, field_at(entry, LENGTH), 2, 65_535)),
+    (28, |_, file, entry| put(file, field_at(entry, LENGTH), 2, 65_535)),
+    (28, |rng, file, _| {
+        let kept = file.len().saturating_sub(1 + rng.below(OBSERVATION));
+        file.truncate(kept);
+    }),
     (25, |rng, file, _| {
         let more = 1 + rng.below(30);
         file.extend(rng.bytes(more));
@@ -182,7 +186,7 @@ pub fn together(rng: &mut Rng, index: usize, peers: &mut Peers) -> Outcome {
     let (mut file, entry) = draft(rng);
     let other = 1 + rng.below(usize::from(file[0]) - 1);
     let mut faults = [index % FAULTS.len(), index / FAULTS.len() % FAULTS.len()];
-    faults.sort_by_key(|&fault| [0, 4, 1, 3, 0, 0, 0, 0, 2][fault]);
+    faults.sort_by_key(|&fault| [0, 4, 1, 3, 0, 0, 0, 0, 2, 2][fault]);
     FAULTS[faults[0]].1(rng, &mut file, entry);
     FAULTS[faults[1]].1(rng, &mut file, other);
     read(peers, file)

@@ -52,9 +52,27 @@ pub struct Left {
     pub slices: Vec<Vec<u8>>,
 }
 
+/// A reply taken apart.
+#[derive(Clone, Copy, Debug, PartialEq, Eq)]
+pub struct Parts {
+    pub code: u64,
+    pub place: u64,
+    pub position: u64,
+}
+
+impl Parts {
+    pub fn in_words(self) -> String {
+        format!("code {} place {} position {}", self.code, self.place, self.position)
+    }
+}
+
 impl Left {
+    pub fn parts(&self) -> Parts {
+        Parts { code: self.reply & 0xff, place: self.reply >> 8 & 0xff_ffff, position: self.reply >> 32 }
+    }
+
     pub fn code(&self) -> u64 {
-        self.reply % 256
+        self.parts().code
     }
 }
 

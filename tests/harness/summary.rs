@@ -1,11 +1,10 @@
 //! Prints what a run found, and its last line.
 
-use crate::met::{Met, CODES};
+use crate::met::{Codes, Met, CODES, TEXT};
 use crate::options::Options;
 use crate::plan::Plan;
 use crate::request::Call;
 use crate::workers::{Failure, Found};
-use std::collections::BTreeMap;
 
 /// How many failures are printed in full.
 const SHOWN: usize = 12;
@@ -25,7 +24,7 @@ pub fn print(plan: &Plan, options: &Options, found: &Found) -> usize {
         let lacks = lacking(&found.met);
         lacks.iter().for_each(|lack| println!("FAILED {}", lack));
         failed += lacks.len();
-        passed += 2 * CODES.len() + 1 - lacks.len();
+        passed += demands() - lacks.len();
     }
     failed += options.carried.1;
     println!("{} passed, {} failed", passed + options.carried.0, failed);
@@ -45,16 +44,19 @@ fn print_met(met: &Met) {
     let calls = [Call::Solve, Call::ReadCuts, Call::ReadFile, Call::WriteFile];
     let each: Vec<String> = calls.iter().map(|&call| format!("{} {}", call.name(), met.calls[call as usize])).collect();
     println!("calls compared: {} ({}); files given to cuts: {}", total, each.join(", "), met.files);
-    println!("codes met on purpose: {}", in_words(&met.on_purpose));
-    println!("codes met by chance: {}", in_words(&met.by_chance));
+    for name in calls.iter().map(|call| call.name()).chain([TEXT]) {
+        println!("{}, codes met on purpose: {}", name, in_words(name, &met.on_purpose));
+        println!("{}, codes met by chance: {}", name, in_words(name, &met.by_chance));
+    }
     let stacks: Vec<String> =
         calls.iter().map(|&call| format!("{} {}", call.name(), met.stack[call as usize])).collect();
     println!("stack bytes used at most: {}", stacks.join(", "));
 }
 
-/// Codes and how often each is met.
-fn in_words(codes: &BTreeMap<u64, u64>) -> String {
-    let each: Vec<String> = codes.iter().map(|(code, times)| format!("{} ({})", code, times)).collect();
+/// The codes under a name and how often each is met.
+fn in_words(name: &str, codes: &Codes) -> String {
+    let named = codes.iter().filter(|((one, _), _)| *one == name);
+    let each: Vec<String> = named.map(|((_, code), times)| format!("{} ({})", code, times)).collect();
     each.join(", ")
 }
 
@@ -71,15 +73,23 @@ fn print_failures(plan: &Plan, options: &Options, failures: &[Failure]) -> usize
     failures.len()
 }
 
-/// What a whole run must meet: every code on purpose and by chance, and a bound on solve's stack.
+/// How many things a whole run must meet.
+fn demands() -> usize {
+    let codes: usize = CODES.iter().map(|(_, codes)| codes.len()).sum();
+    2 * codes + 1
+}
+
+/// What a whole run must meet and does not: every code of every call on purpose and by chance, and a bound on
+/// solve's stack.
 fn lacking(met: &Met) -> Vec<String> {
     let mut lacks: Vec<String> = Vec::new();
-    for code in CODES {
-        if !met.on_purpose.contains_key(&code) {
-            lacks.push(format!("code {} is not met on purpose", code));
-        }
-        if !met.by_chance.contains_key(&code) {
-            lacks.push(format!("code {} is not met by chance", code));
+    for (call, codes) in CODES {
+        for &code in codes {
+            for (how, met) in [("on purpose", &met.on_purpose), ("by chance", &met.by_chance)] {
+                if !met.contains_key(&(call.name(), code)) {
+                    lacks.push(format!("code {} of {} is not met {}", code, call.name(), how));
+                }
+            }
         }
     }
     if met.stack[Call::Solve as usize] > SOLVE_STACK {

@@ -3,7 +3,7 @@
 
 /// The codes whose place counts observations, and those whose place counts entries.
 const AT_INDEX: [u64; 4] = [8, 9, 10, 11];
-const AT_ENTRY: [u64; 3] = [22, 23, 24];
+const AT_ENTRY: [u64; 4] = [22, 23, 24, 28];
 
 /// A refusal that stands in a text.
 pub struct Refusal<'a> {
@@ -11,15 +11,21 @@ pub struct Refusal<'a> {
     who: &'a str,
     code: u64,
     place: &'a str,
+    /// The byte position, `0` where there is none.
+    position: &'a str,
 }
 
 impl<'a> Refusal<'a> {
-    /// The refusal that a line of the text is, if it is one.
+    /// The refusal that a line of the text is, if it is one. The line of a file has a position at its end.
     fn of(line: &'a str) -> Option<Refusal<'a>> {
         let (who, rest) = line.split_once(" code ")?;
-        let (code, place) = rest.split_once(" place ")?;
+        let (code, rest) = rest.split_once(" place ")?;
+        let (place, position) = match who {
+            "file" => rest.split_once(" at ").expect("the line of a refused file ends in a position"),
+            _ => (rest, "0"),
+        };
         let code = code.parse().expect("a code is a number");
-        (code != 0).then_some(Refusal { who, code, place })
+        (code != 0).then_some(Refusal { who, code, place, position })
     }
 
     /// What a sentence says of the place; nothing for a code that has none.
@@ -31,8 +37,15 @@ impl<'a> Refusal<'a> {
         }
     }
 
+    fn position_in_words(&self) -> String {
+        match self.position {
+            "0" => String::new(),
+            position => format!(", byte {}", position),
+        }
+    }
+
     fn end_of_sentence(&self) -> String {
-        format!("{} (code {})", self.place_in_words(), self.code)
+        format!("{}{} (code {})", self.place_in_words(), self.position_in_words(), self.code)
     }
 
     /// Whether a sentence tells this refusal, and in words between its two ends.
@@ -41,7 +54,7 @@ impl<'a> Refusal<'a> {
             .strip_prefix(self.who)
             .and_then(|rest| rest.strip_prefix(": "))
             .and_then(|rest| rest.strip_suffix(&self.end_of_sentence()));
-        words.map_or(false, |words| !words.trim().is_empty() && !words.contains(", at "))
+        words.map_or(false, |words| !words.trim().is_empty() && !words.contains(", at ") && !words.contains(", byte "))
     }
 }
 

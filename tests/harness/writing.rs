@@ -122,11 +122,11 @@ const FAULTS: [Fault; 10] = [
         draft.set(entry, TERM, if rng.chance(50) { 0 } else { before });
     }),
     (24, |rng, draft, entry| draft.set(entry, KIND, rng.pick(&[2, 3, 128, 255]))),
-    (22, |_, draft, entry| {
+    (28, |_, draft, entry| {
         let n = draft.held(entry, LENGTH);
         draft.set(entry, LENGTH, n | 0xff00);
     }),
-    (22, |rng, draft, _| {
+    (28, |rng, draft, _| {
         let kept = draft.bodies.len().saturating_sub(1 + rng.below(13));
         draft.bodies.truncate(kept);
     }),

@@ -13,7 +13,7 @@ const MOST_RECORDS: usize = 64;
 /// The width of the count of records.
 pub const COUNT: usize = 2;
 
-/// The width of an entry as it is lent to the writer, and with its offset in the file.
+/// The width of an entry as it is lent to the writer, and in the file, where its offset follows.
 pub const LENT_ENTRY: usize = 8;
 pub const FILE_ENTRY: usize = 12;
 
@@ -88,11 +88,11 @@ pub fn parse(file: &[u8]) -> Result<Vec<Entry>, Refusal> {
     for (place, entry) in contents.chunks(FILE_ENTRY).enumerate() {
         let fields = Fields::of(entry);
         fields.judge(place, entries.last().map(|before| before.term))?;
-        let misplaced = Refusal::at(22, place);
-        if number(&entry[8..12]) != (file.len() - rest.len()) as u64 {
-            return Err(misplaced);
+        if number(&entry[LENT_ENTRY..]) != (file.len() - rest.len()) as u64 {
+            return Err(Refusal::at(22, place).on_byte(COUNT + FILE_ENTRY * place + LENT_ENTRY));
         }
-        let body = take(&mut rest, OBSERVATION * fields.n, misplaced)?;
+        let past_end = Refusal::at(28, place).on_byte(file.len());
+        let body = take(&mut rest, OBSERVATION * fields.n, past_end)?;
         entries.push(fields.with_body(body));
     }
     refuse_if(!rest.is_empty(), 25)?;
@@ -111,7 +111,7 @@ pub fn compose(lent: &[u8], bodies: &[u8]) -> Result<Vec<u8>, Refusal> {
         let fields = Fields::of(entry);
         fields.judge(place, term_before)?;
         let offset = COUNT + FILE_ENTRY * count + bodies.len() - rest.len();
-        take(&mut rest, OBSERVATION * fields.n, Refusal::at(22, place))?;
+        take(&mut rest, OBSERVATION * fields.n, Refusal::at(28, place).on_byte(bodies.len()))?;
         contents.extend([entry, &bytes(offset as u64, 4)].concat());
         term_before = Some(fields.term);
     }

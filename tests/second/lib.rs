@@ -13,25 +13,31 @@ pub mod lines;
 pub mod number;
 pub mod record;
 
-/// A refusal: its code and its place.
+/// A refusal: its code, its place and its byte position.
 #[derive(Clone, Copy, Debug, PartialEq, Eq)]
 pub struct Refusal {
     pub code: u64,
     pub place: u64,
+    pub position: u64,
 }
 
 impl Refusal {
     pub fn plain(code: u64) -> Refusal {
-        Refusal { code, place: 0 }
+        Refusal::at(code, 0)
     }
 
     pub fn at(code: u64, place: usize) -> Refusal {
-        Refusal { code, place: place as u64 }
+        Refusal { code, place: place as u64, position: 0 }
     }
 
-    /// Code and place in one number.
+    /// The same refusal with a position.
+    pub fn on_byte(self, position: usize) -> Refusal {
+        Refusal { position: position as u64, ..self }
+    }
+
+    /// Code, place and position in one number.
     pub fn reply(self) -> u64 {
-        self.code + 256 * self.place
+        self.code + 256 * self.place + 4_294_967_296 * self.position
     }
 }
 

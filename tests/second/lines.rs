@@ -9,7 +9,7 @@ use crate::record::{judge, Asked, Record};
 pub fn text(contents: &[u8]) -> String {
     match file::parse(contents) {
         Ok(entries) => entries.iter().map(of_term).collect(),
-        Err(refusal) => format!("file code {} place {}\n", refusal.code, refusal.place),
+        Err(refusal) => format!("file code {} place {} at {}\n", refusal.code, refusal.place, refusal.position),
     }
 }
 

@@ -1,84 +1,24 @@
--- The codes of replies to entries, what they point at, and where a wrong body is told. Assumes nothing.
-use Prim.Native.Nat.{ℕ, zero, suc, _+_, _*_, _^_, _≤_, _<_}
-use mathlib.Core.Path.{_≡_, refl, sym, ap, subst}
-use mathlib.Core.Bool.{true, false}
+-- Where a wrong body is told: 22 and 28, each with its entry and its position. Assumes nothing.
+use Prim.Native.Nat.{ℕ, _<_}
+use mathlib.Core.Path.{_≡_, sym, ap, subst}
+use mathlib.Core.Bool.{false}
 use mathlib.Core.Logic.{inl, inr, _↔_, Iff·rfl, Iff·trans, Iff·and}
 use mathlib.Core.List.{List, [], _∷_}
 use native.Mathlib.Omega.{arith}
 use lib.ListN.{length}
 use Rattle.reply.specs.declared.Reply.{Reply}
-use Rattle.reply.specs.Reply.{refusalAt, refusal}
+use Rattle.reply.specs.Reply.{refusalAt}
 use Rattle.reply.specs.Codes.{among}
-use Rattle.reply.specs.Tries.{_then_, Clear, Refused, Every, Within}
-use Rattle.reply.specs.Answered.{Placed}
-use Rattle.reply.proofs.Exactly.{code-of, position-of, not-among, every-refused, not-first, not-second, refused-iff}
+use Rattle.reply.specs.Tries.{_then_, Clear, Refused}
+use Rattle.reply.proofs.Exactly.{code-of, position-of, every-refused, not-first, not-second, refused-iff}
 use Rattle.file.specs.declared.contents.Contents.{Contents}
-use Rattle.file.specs.Limits.{mostBytes, mostRecords}
-use Rattle.file.specs.Layout.{field, sizeOf, sizeLimit}
-use Rattle.file.specs.Contents.{countIn, filed, countLent, lent, entryIn, dueIn, offsetIn, offsetFieldIn}
-use Rattle.file.specs.Items.{Bytes}
-use Rattle.file.specs.Tries.{entryCodes, lentCodes, triesIn, contentsTries, leftTry, entriesTries, headTries, readTries, readCodes, readReply, lentLength, roomTries, lentTries, writeTries, writeCodes, writeReply}
-use Rattle.file.specs.Bodies.{Positioned, Pointed, Tried, Misplaced, PastEnd}
-use Rattle.file.proofs.Codec.{entry-fits, size-is}
+use Rattle.file.specs.Contents.{filed, lent, offsetFieldIn}
+use Rattle.file.specs.Tries.{triesIn, contentsTries, leftTry, entriesTries, headTries, readTries, readReply, lentLength, roomTries, wholeTries, writeTries, writeReply}
+use Rattle.file.specs.Bodies.{Misplaced, PastEnd}
 use Rattle.file.proofs.Accepted.{read-coded, write-coded}
 
--- ---- entries
+-- ---- among entries
 module _ (c : Contents) (s : List ℕ) where
-  -- a reply with a place and no position, of another code than those of a wrong body
-  plain : (cs : List ℕ) (k p : ℕ) → among k (22 ∷ 28 ∷ []) ≡ false → Placed cs (c .count) mostRecords (refusal k p) → Pointed cs c (refusal k p)
-  unfolding among
-  plain cs k p apart h = (
-    h,
-    record {
-      misplaced = λ e. absurd (not-among k 22 (22 ∷ 28 ∷ []) apart refl (sym e));
-      past-end = λ e. absurd (not-among k 28 (22 ∷ 28 ∷ []) apart refl (sym e));
-      other = λ _ _. refl;
-    },
-  )
-
-  pub bare : (cs : List ℕ) (k : ℕ) → among k (22 ∷ 28 ∷ []) ≡ false → Pointed cs c (refusal k 0)
-  bare cs k apart = plain cs k 0 apart (inl refl)
-
-  -- the replies to entries point at their entries and bytes, whatever list has their codes
-  module _
-      (cs : List ℕ) (has23 : among 23 cs ≡ true) (has24 : among 24 cs ≡ true) (has28 : among 28 cs ≡ true)
-      (has22 : (i : ℕ) → (offsetIn c s i ≡ dueIn c s i .at → ⊥) → among 22 cs ≡ true) where
-    pub entries-within : Within cs (contentsTries c s)
-    entries-within = λ i a b. (λ _. has23, λ _. (λ _. has24, λ _. (λ w. has22 i w, λ _ _. has28)))
-
-    pub entries-pointed : c .count ≤ mostRecords → Every (Pointed cs c) (contentsTries c s)
-    unfolding among
-    entries-pointed few = λ i a b. (
-      λ _. plain cs 23 i refl (inr (has23, (b, few))),
-      λ _. (
-        λ _. plain cs 24 i refl (inr (has24, (b, few))),
-        λ _. (
-          λ w. (inr (has22 i w, (b, few)), record { misplaced = λ _. refl; past-end = λ e. absurd (omega arith); other = λ n _. absurd (n refl) }),
-          λ _ _. (inr (has28, (b, few)), record { misplaced = λ e. absurd (omega arith); past-end = λ _. refl; other = λ _ n. absurd (n refl) }),
-        ),
-      ),
-    )
-
-  -- where bodies are due, at most
-  due-near : Bytes s → (i : ℕ) → dueIn c s i .at ≤ c .start + sizeLimit * i
-  unfolding dueIn
-  due-near B zero = omega arith
-  due-near B (suc i) =
-      let before = due-near B i in
-      let size = size-is (entryIn c s i) (entry-fits s B _) in
-      omega arith
-
-  -- a body of one of so few entries passes no end that is farther than 32 bits can say
-  end-near : Bytes s → c .count ≤ mostRecords → c .start ≤ mostBytes → (i : ℕ) → i < c .count → c .limit < dueIn c s i .at + sizeOf (entryIn c s i) → c .limit < 2 ^ 32
-  end-near B few near i h past = let size = size-is (entryIn c s i) (entry-fits s B _) in omega (arith, due-near B i)
-
-  -- so every position takes 32 bits
-  pub entries-near :
-      ((i : ℕ) → i < c .count → offsetFieldIn c i < 2 ^ 32) →
-      ((i : ℕ) → i < c .count → c .limit < dueIn c s i .at + sizeOf (entryIn c s i) → c .limit < 2 ^ 32) →
-      Every (λ r. r .position < 2 ^ 32) (contentsTries c s)
-  entries-near fields ends = λ i a b. (λ _. omega arith, λ _. (λ _. omega arith, λ _. (λ _. fields i b, λ _ past. ends i b past)))
-
   -- What is told of an entry is told of the first that has anything wrong, and it is the place.
   entry-iff :
       (r : Reply) →
@@ -127,91 +67,28 @@ module _ (c : Contents) (s : List ℕ) where
         (t .there, (t .before, inr (t .rising, inr (t .known, inr (q .0 .placed, (q .0 .past, ap (refusalAt 28 i) (q .1))))))),
   )
 
--- ---- a file
-module _ (f : List ℕ) where
-  pub read-within : Within readCodes (readTries f)
-  unfolding readTries among
-  read-within = search depth 20
+-- ---- in a file, and in what is lent
+-- what is tried beside entries has these codes; what only entries tell is told where nothing before them is wrong
+abbrev beside : List ℕ
+beside = 20 ∷ 21 ∷ 25 ∷ 26 ∷ 27 ∷ []
 
-  pub read-pointed : Every (Pointed entryCodes (filed f)) (readTries f)
-  unfolding readTries among
-  read-pointed = (
-    search bare depth 20,
-    λ head. (entries-pointed (filed f) f entryCodes refl refl refl (λ _ _. refl) (head .1 .1 .0 .1), search bare depth 20),
-  )
+pub read-entry :
+    (f : List ℕ) (r : Reply) → (r .code ≡ 0 → ⊥) → among (r .code) beside ≡ false →
+    (readReply f ≡ r) ↔ (Clear (headTries f) × Refused (contentsTries (filed f) f) r)
+unfolding readTries among
+read-entry f r some apart =
+    Iff·trans (refused-iff (readTries f) (read-coded f) r some)
+    (Iff·trans (not-first (headTries f) (entriesTries (filed f) f) beside r apart (search depth 20))
+    (Iff·and Iff·rfl (not-second (contentsTries (filed f) f) (leftTry (filed f) f) beside r apart (search depth 20))))
 
-  pub read-near : Every (λ r. r .position < 2 ^ 32) (readTries f)
-  unfolding readTries
-  read-near =
-      let none : 0 < 2 ^ 32 = omega arith in (
-        search depth 20,
-        λ head. (
-          (let few : countIn f ≤ mostRecords = head .1 .1 .0 .1 in entries-near (filed f) f (λ i b. omega arith) (λ _ _ _. omega (arith, head .0))),
-          search depth 20,
-        ),
-      )
-
-  -- what only entries tell is told where nothing before them is wrong
-  pub read-entry :
-      (r : Reply) → (r .code ≡ 0 → ⊥) → among (r .code) (26 ∷ 20 ∷ 21 ∷ 25 ∷ []) ≡ false →
-      (readReply f ≡ r) ↔ (Clear (headTries f) × Refused (contentsTries (filed f) f) r)
-  unfolding readTries among
-  read-entry r some apart =
-      Iff·trans (refused-iff (readTries f) (read-coded f) r some)
-      (Iff·trans (not-first (headTries f) (entriesTries (filed f) f) (26 ∷ 20 ∷ 21 ∷ 25 ∷ []) r apart (search depth 20))
-      (Iff·and Iff·rfl (not-second (contentsTries (filed f) f) (leftTry (filed f) f) (26 ∷ 20 ∷ 21 ∷ 25 ∷ []) r apart (search depth 20))))
-
--- ---- what is lent
--- a lent entry has no offset of its own: its body is where it is due
-pub lent-placed : (es : List ℕ) (run i : ℕ) → offsetIn (lent es run) es i ≡ dueIn (lent es run) es i .at
-unfolding field
-lent-placed es run i = refl
-
-module _ (es bs : List ℕ) (room : ℕ) where
-  abbrev given : Contents
-  given = lent es (length bs)
-
-  pub write-within : Within writeCodes (writeTries es bs room)
-  unfolding writeTries among
-  write-within = (
-    search depth 20,
-    λ _. (
-      (entries-within given es writeCodes refl refl refl (λ i w. absurd (w (lent-placed es (length bs) i))), search depth 20),
-      search depth 20,
-    ),
-  )
-
-  pub write-pointed : Every (Pointed lentCodes given) (writeTries es bs room)
-  unfolding writeTries among
-  write-pointed = (
-    search bare depth 20,
-    λ head. (
-      (entries-pointed given es lentCodes refl refl refl (λ i w. absurd (w (lent-placed es (length bs) i))) (head .1 .1), search bare depth 20),
-      search bare depth 20,
-    ),
-  )
-
-  pub write-near : Bytes es → Every (λ r. r .position < 2 ^ 32) (writeTries es bs room)
-  unfolding writeTries
-  write-near B =
-      let none : 0 < 2 ^ 32 = omega arith in (
-        search depth 20,
-        λ head. (
-          (
-            (let few : countLent es ≤ mostRecords = head .1 .1 in entries-near given es (λ i b. omega arith) (end-near given es B few (omega arith))),
-            search depth 20,
-          ),
-          search depth 20,
-        ),
-      )
-
-  pub write-entry :
-      (r : Reply) → (r .code ≡ 0 → ⊥) → among (r .code) (20 ∷ 21 ∷ 25 ∷ 26 ∷ 27 ∷ []) ≡ false →
-      (writeReply es bs room ≡ r) ↔ (Clear (lentTries es) × Refused (contentsTries given es) r)
-  unfolding writeTries among
-  write-entry r some apart =
-      Iff·trans (refused-iff (writeTries es bs room) (write-coded es bs room) r some)
-      (Iff·trans (not-first (lentTries es) (entriesTries given es then roomTries (lentLength es bs) room) (20 ∷ 21 ∷ 25 ∷ 26 ∷ 27 ∷ []) r apart (search depth 20))
-      (Iff·and Iff·rfl
-      (Iff·trans (not-second (entriesTries given es) (roomTries (lentLength es bs) room) (20 ∷ 21 ∷ 25 ∷ 26 ∷ 27 ∷ []) r apart (search depth 20))
-      (not-second (contentsTries given es) (leftTry given es) (20 ∷ 21 ∷ 25 ∷ 26 ∷ 27 ∷ []) r apart (search depth 20)))))
+pub write-entry :
+    (es bs : List ℕ) (room : ℕ) (r : Reply) → (r .code ≡ 0 → ⊥) → among (r .code) beside ≡ false →
+    (writeReply es bs room ≡ r) ↔ (Clear (wholeTries es) × Refused (contentsTries (lent es (length bs)) es) r)
+unfolding writeTries among
+write-entry es bs room r some apart =
+    let given = lent es (length bs) in
+    Iff·trans (refused-iff (writeTries es bs room) (write-coded es bs room) r some)
+    (Iff·trans (not-first (wholeTries es) (entriesTries given es then roomTries (lentLength es bs) room) beside r apart (search depth 20))
+    (Iff·and Iff·rfl
+    (Iff·trans (not-second (entriesTries given es) (roomTries (lentLength es bs) room) beside r apart (search depth 20))
+    (not-second (contentsTries given es) (leftTry given es) beside r apart (search depth 20)))))

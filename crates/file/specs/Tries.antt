@@ -29,9 +29,13 @@ entryTries c e offset due i =
     then tryAt (offset is-not due .at) 22 i (offsetFieldIn c i)
     then tryAt (due .at + sizeOf e is-above c .limit) 28 i (c .limit)
 
--- their codes, for which "place is the entry"; a lent entry has no offset that could be wrong: 28 "replaces the writer's 22"
+-- the codes of a wrong body, and all of these, for which "place is the entry"; a lent entry has no offset that could be wrong: 28 "replaces the
+-- writer's 22"
+abbrev pub bodyCodes : List ℕ
+bodyCodes = 22 ∷ 28 ∷ []
+
 abbrev pub entryCodes : List ℕ
-entryCodes = 23 ∷ 24 ∷ 22 ∷ 28 ∷ []
+entryCodes = 23 ∷ 24 ∷ bodyCodes
 
 abbrev pub lentCodes : List ℕ
 lentCodes = 23 ∷ 24 ∷ 28 ∷ []
@@ -74,11 +78,11 @@ abbrev pub roomTries : (long room : ℕ) → Tries
 roomTries long room = try (long is-above mostBytes) 26 0 then try (room is-below long) 27 0
 
 -- "It tries 20 for a last entry cut short, 21, then each entry for 23, 24", 28; "then 25 (bytes left over), 26, 27."
-abbrev pub lentTries : List ℕ → Tries
-lentTries es = try (length es % lentBytes is-not 0) 20 0 then try (badCount (countLent es)) 21 0
+abbrev pub wholeTries : List ℕ → Tries
+wholeTries es = try (length es % lentBytes is-not 0) 20 0 then try (badCount (countLent es)) 21 0
 
 unfoldable pub writeTries : (es bs : List ℕ) → ℕ → Tries
-writeTries es bs room = lentTries es then entriesTries (lent es (length bs)) es then roomTries (lentLength es bs) room
+writeTries es bs room = wholeTries es then entriesTries (lent es (length bs)) es then roomTries (lentLength es bs) room
 
 abbrev pub writeCodes : List ℕ
 writeCodes = 20 ∷ 21 ∷ 25 ∷ 26 ∷ 27 ∷ lentCodes
