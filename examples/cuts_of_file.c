@@ -64,7 +64,7 @@ static uint64_t change_date(const Record *record, unsigned start)
     return (day_at(record, start - 1) + day_at(record, start)) / 2;
 }
 
-/* Tells a refusal in words. */
+/* Tells a refusal of a file or of a term in words. Where a file has a position it is not 0. */
 static void tell(const char *who, uint64_t reply)
 {
     unsigned code = TAWINRAK_CODE(reply);

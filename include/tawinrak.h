@@ -70,9 +70,10 @@
  *   works on a thread whose whole stack is 16 KiB.
  *
  * Replies
- *   Each call returns one number, code + 256 * place + 4,294,967,296 * position:
- *   TAWINRAK_CODE, TAWINRAK_PLACE and TAWINRAK_POSITION take it apart. Code 0 is
- *   "done". With any other code nothing lent was written. The place is 0 unless
+ *   Each call returns one number, code + 256 * place + 4,294,967,296 * position.
+ *   Keep it in a uint64_t, and take it apart with TAWINRAK_CODE, TAWINRAK_PLACE
+ *   and TAWINRAK_POSITION: reply / 256 is not the place. Code 0 is "done". With
+ *   any other code nothing lent was written. The place is 0 unless
  *   TAWINRAK_REPLIES says what it counts, and counts from 0. The position is a
  *   byte position, and 0 in every reply but those of two codes. With 22 it is
  *   where the entry's offset field begins in the file. With 28 it is the length

@@ -1,7 +1,7 @@
 /*
  * positions.c: lends the writer 64 entries of the most observations that an entry can name, and runs of
- * bodies far longer than the driver's slices, up to the longest that can end inside a body. Holds code,
- * place and position to what is due, and the output to what it was, byte for byte.
+ * bodies far longer than the driver's slices, round the longest that ends inside a body. Holds code, place
+ * and position to what is due, and the output to what it was, byte for byte.
  */
 #include "tawinrak.h"
 

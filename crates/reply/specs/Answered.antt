@@ -16,7 +16,7 @@ Placed cs n most r = (r .place ≡ 0) ⊎ ((among (r .code) cs ≡ true) × ((r 
 abbrev pub PlacedOnly : List ℕ → (n most : ℕ) → Reply → Type 0
 PlacedOnly cs n most r = Placed cs n most r × (r .position ≡ 0)
 
--- r answers the tries, whose codes are cs, and has the property P, which says what places and positions there are.
+-- r answers the tries, whose replies have codes of cs, and has the property P, which says what places and positions there are.
 pub record Answered (cs : List ℕ) (P : Reply → Type 0) (ts : Tries) (r : Reply) : Type 0 where
   -- the tries and nothing else decide
   pub decided : r ≡ firstOf ts

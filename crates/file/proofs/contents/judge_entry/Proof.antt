@@ -1,9 +1,8 @@
 -- `file::contents::judge_entry` meets its contract. Assumes nothing.
-use Prim.Native.Nat.{ℕ, _+_, _≤_, _<_}
-use mathlib.Core.Path.{_≡_, ap, _∙_}
+use Prim.Native.Nat.{_+_, _≤_, _<_}
+use mathlib.Core.Path.{_≡_}
 use native.Mathlib.Omega.{arith}
 use borrow.Author.Needs.{needs}
-use Rattle.reply.specs.Reply.{refusalAt}
 use Rattle.reply.proofs.Answers.{answers, by-code}
 use Rattle.file.specs.Layout.{sizeOf}
 use Rattle.file.proofs.contents.judge_entry.Statement.{statement}
@@ -31,7 +30,7 @@ returns-3 : tie.Need-returns-3
 returns-3 c =
     let a = c .before .before .before .before .before .before .before .before .before .args in
     let off : a .offset ≡ a .due .at → ⊥ = λ e. omega (arith, c .before .before .if3 .taken) in
-    let told = c .refused-at .ensures ∙ ap (λ (x : ℕ). refusalAt 22 (a .i) x) (c .before .offset-field-in .ensures) in
+    let told = rw (c .before .offset-field-in .ensures) at (c .refused-at .ensures) in
     search (by-code, answers)
 
 sub-if4 : tie.Need-sub-if4
