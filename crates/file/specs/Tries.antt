@@ -29,8 +29,8 @@ entryTries c e offset due i =
     then tryAt (offset is-not due .at) 22 i (offsetFieldIn c i)
     then tryAt (due .at + sizeOf e is-above c .limit) 28 i (c .limit)
 
--- the codes of a wrong body, and all of these, for which "place is the entry"; a lent entry has no offset that could be wrong: 28 "replaces the
--- writer's 22"
+-- The codes of a wrong body; of an entry, for which "place is the entry"; and of a lent one, which has no offset that could be wrong, so that 28
+-- "replaces the writer's 22".
 abbrev pub bodyCodes : List ℕ
 bodyCodes = 22 ∷ 28 ∷ []
 
@@ -53,7 +53,7 @@ leftTry c s = try (dueIn c s (c .count) .at is-below c .limit) 25 0
 abbrev pub entriesTries : Contents → List ℕ → Tries
 entriesTries c s = contentsTries c s then leftTry c s
 
--- "Reading tries 26, 20 for the count, 21, 20 for the contents, then entry by entry 23, 24, 22", 28, "then 25."
+-- "Reading tries 26, 20 for the count, 21, 20 for the contents, ..
 abbrev pub headTries : List ℕ → Tries
 headTries f =
     try (length f is-above mostBytes) 26 0
@@ -61,6 +61,7 @@ headTries f =
     then try (badCount (countIn f)) 21 0
     then try (length f is-below bodiesAt (countIn f)) 20 0
 
+-- .. then entry by entry 23, 24, 22", and 28, "then 25."
 unfoldable pub readTries : List ℕ → Tries
 readTries f = headTries f then entriesTries (filed f) f
 
@@ -77,10 +78,11 @@ lentLength es bs = bodiesAt (countLent es) + length bs
 abbrev pub roomTries : (long room : ℕ) → Tries
 roomTries long room = try (long is-above mostBytes) 26 0 then try (room is-below long) 27 0
 
--- "It tries 20 for a last entry cut short, 21, then each entry for 23, 24", 28; "then 25 (bytes left over), 26, 27."
+-- "It tries 20 for a last entry cut short, 21, ..
 abbrev pub wholeTries : List ℕ → Tries
 wholeTries es = try (length es % lentBytes is-not 0) 20 0 then try (badCount (countLent es)) 21 0
 
+-- .. then each entry for 23, 24", and 28; "then 25 (bytes left over), 26, 27."
 unfoldable pub writeTries : (es bs : List ℕ) → ℕ → Tries
 writeTries es bs room = wholeTries es then entriesTries (lent es (length bs)) es then roomTries (lentLength es bs) room
 

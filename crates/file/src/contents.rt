@@ -87,7 +87,7 @@ pub(crate) fn offset_in(s: &[u8], c: Contents, i: usize, due: usize) -> usize
     layout::offset_at(s, place_in(c, i), w, due)
 }
 
-// Entry i, whose offset this is, and what is due of it.
+// The reply to entry i, by its fields, its offset, and what is due of it.
 fn judge_entry(c: Contents, e: Entry, offset: usize, due: Due, i: usize) -> Reply
     requires { ⌜ Near c i × Fits e × (due .at ≤ c .limit) ⌝ }
     ensures { λ r. ⌜ r ≡ firstOf (entryTries c e offset due i) ⌝ }
