@@ -1,4 +1,7 @@
 // Bytes laid over a lent buffer.
+
+#![tactic(auto)]
+
 ghost use Rattle.std.specs.Prelude.{◌≡◌, ◌+◌, ◌≤◌, length};
 ghost use Rattle.buffer.specs.Laid.{laid};
 

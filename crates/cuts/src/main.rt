@@ -1,5 +1,8 @@
 // Prints the cuts of the record file that stands on standard input: `file code C place P at B` for a refused file, and else each term's lines in
 // order. It reads one byte more than the longest file has and no further.
+
+#![tactic(auto)]
+
 ghost use Rattle.std.specs.Prelude.{◌≡◌, ◌<◌};
 ghost use Rattle.file.specs.Contents.{count_in};
 ghost use Rattle.file.specs.Tries.{read_reply};

@@ -1,6 +1,9 @@
 // The theory of cuttings, over any segment cost and any least length: `specs/` defines them, and `proofs/` has their laws.
 // The code here is the rules' numbers alone, which `specs/Limits.antt` names for contracts.
 
+#![tactic(auto)]
+
+
 // "Observations n: 1 to 400."
 pub const MOST_OBSERVATIONS: usize = 400;
 

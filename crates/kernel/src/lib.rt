@@ -1,5 +1,8 @@
 // The kernels in code: which one a number names, the distance of two samples, and a segment's cost in units.
 
+#![tactic(auto)]
+
+
 ghost use Rattle.std.specs.Prelude.{◌≡◌, ◌^◌, ◌≤◌, ◌<◌};
 ghost use Rattle.cutting.specs.Limits.{most_observations};
 ghost use Rattle.sample.specs.Level.{largest_level};

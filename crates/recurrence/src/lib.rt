@@ -1,5 +1,8 @@
 // The recurrence of source 004 over a run of levels: Algorithm 3 in pair form. One running column of tails is held through the whole run,
 // and the two lent byte tables are filled column by column.
+
+#![tactic(auto)]
+
 ghost use Rattle.std.specs.Prelude.{◌≡◌, ℕ, ◌+◌, ◌*◌, ◌^◌, ◌≤◌, ◌<◌, length, get_or};
 ghost use Rattle.cutting.specs.Limits.{most_observations, most_segments, cost_bytes};
 ghost use Rattle.cutting.specs.Recurrence.{Found};

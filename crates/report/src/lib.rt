@@ -1,4 +1,7 @@
 // The lines that the program prints, written into a lent buffer: those of one term, and that of a refused file.
+
+#![tactic(auto)]
+
 mod line;
 mod term;
 mod written;

@@ -1,5 +1,8 @@
 // A sample: a signed count, or a 64-bit floating share. Either is judged and becomes a whole number x
 // from -1,000,000 to 1,000,000.
+
+#![tactic(auto)]
+
 ghost use Rattle.std.specs.Prelude.{◌≡◌};
 ghost use Rattle.std.specs.Float.{binary64};
 ghost use Rattle.std.specs.Float.Ieee.{of_bits};

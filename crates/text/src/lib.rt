@@ -1,4 +1,7 @@
 // Text in a lent buffer: bytes, words and decimal numbers, one behind the other. What passes the buffer's end is counted and not written.
+
+#![tactic(auto)]
+
 ghost use Rattle.std.specs.Prelude.{[], ◌∷◌, ◌+◌, ◌^◌, ◌≤◌, ◌<◌, length};
 ghost use Rattle.text.specs.Text.{Put, digits, decimal};
 
