@@ -1,11 +1,11 @@
 -- The laws of what is laid over a buffer. Assumes nothing.
 use Prim.Native.Nat.{ℕ, suc, ◌+◌, ◌-◌, ◌≤◌}
 use mathlib.Core.Path.{◌≡◌, refl, sym, ap, ◌∙◌}
-use mathlib.Core.List.{List, [], ◌∷◌, ◌++◌, append_assoc, append-nil}
+use mathlib.Core.List.{List, [], ◌∷◌, ◌++◌, append_assoc}
 use native.Mathlib.Omega.{arith}
-use lib.ListN.{length, take, drop, set, length-take, length-drop}
-use lib.Seq.{length-sets, sets-eq, take_all, take-length, drop-length, drop-drop, take_at, drop_at}
-use borrow.Rule.Slice.PartMut.{mid_of, post_of, put_mid, Post-is}
+use lib.ListN.{length, take, drop, set, length-take}
+use lib.Seq.{length-sets, sets-eq, drop-drop, take_at, drop_at}
+use borrow.Rule.Slice.PartMut.{put_mid, Post-is}
 use Rattle.table.specs.Num.{put, le}
 use Rattle.table.proofs.Num.{put_sets}
 use Rattle.buffer.specs.Laid.{laid}
@@ -46,12 +46,6 @@ module _ (o : List ℕ) (n : ℕ) (s : List ℕ) (fits : n + length s ≤ length
   pub after_laid : drop (n + length s) (laid o n s) ≡ drop (n + length s) o
   after_laid = sym (drop-drop (length s) n (laid o n s)) ∙ ap (drop (length s)) from_laid ∙ drop_at s _ (length s) refl
 
--- What comes back from a copy of s into the part of o from n on.
-pub copied :
-    (o s p : List ℕ) (n : ℕ) → n + length s ≤ length o → p ≡ take (length s) s ++ drop (length s) (mid_of n (length o - n) o) →
-    put_mid n (length o - n) o p ≡ laid o n s
-copied o s p n h e =
-    let mid : mid_of n (length o - n) o ≡ drop n o = take_all (length o - n) (drop n o) (simp length-drop (omega arith)) in
-    let post : post_of n (length o - n) o ≡ [] = Post-is n (length o) o (omega arith) ∙ drop-length o in
-    let q : p ≡ s ++ drop (n + length s) o = e ∙ simp (take-length, mid, drop-drop) in
-    simp (post, append-nil, q) (sym (laid_is o n s h))
+-- What comes back from a copy of s into the part of o from n to its end there.
+pub copied : (o s : List ℕ) (n : ℕ) → n + length s ≤ length o → put_mid n (n + length s - n) o s ≡ laid o n s
+copied o s n h = rw (Post-is n (n + length s) o (omega arith)) (sym (laid_is o n s h))

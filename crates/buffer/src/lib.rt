@@ -10,5 +10,5 @@ pub fn lay(out: &mut [u8], at: usize, s: &[u8])
     requires { at + length s.now ≤ length out.old }
     ensures { out.new ≡ laid out.old at s.now }
 {
-    bytes::copy(s, &mut out[at..]);
+    out[at..at + s.len()].copy_from_slice(s);
 }

@@ -3,7 +3,6 @@
 
 #![tactic(auto)]
 
-
 // "Observations n: 1 to 400."
 pub const MOST_OBSERVATIONS: usize = 400;
 

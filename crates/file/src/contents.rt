@@ -13,7 +13,7 @@ use crate::{layout, limits};
 use reply::Reply;
 
 // Where entries stand: `count` of them from byte `from` on. Their bodies begin at `start` and are to end by `limit`.
-#[derive(Drop)]
+#[derive(Clone, Copy)]
 pub(crate) struct Contents {
     pub widths: Widths,
     pub count: usize,
@@ -23,14 +23,14 @@ pub(crate) struct Contents {
 }
 
 // What is due of an entry: a term number of `floor` or more, and a body at `at`.
-#[derive(Drop)]
+#[derive(Clone, Copy)]
 pub(crate) struct Due {
     pub floor: u64,
     pub at: usize,
 }
 
 // The reply to entries, and where their bodies end.
-#[derive(Drop)]
+#[derive(Clone, Copy)]
 pub(crate) struct Reached {
     pub reply: Reply,
     pub end: usize,

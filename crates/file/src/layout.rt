@@ -9,13 +9,13 @@ use crate::limits;
 use record::Asked;
 
 // A layout: the widths of the fields that not every layout has, 0 where there is no such field.
-#[derive(Drop)]
+#[derive(Clone, Copy)]
 pub(crate) struct Widths {
     pub offset: usize,
 }
 
 // An entry of the contents, its offset aside: the term number, what is asked of the record, and how many observations it has.
-#[derive(Drop)]
+#[derive(Clone, Copy)]
 pub struct Entry {
     pub term: u64,
     pub asked: Asked,

@@ -11,7 +11,7 @@ use crate::{contents, layout, limits};
 use reply::Reply;
 
 // A record of a file: its entry, and where in the file its body begins and ends.
-#[derive(Drop)]
+#[derive(Clone, Copy)]
 pub struct Found {
     pub entry: Entry,
     pub from: usize,

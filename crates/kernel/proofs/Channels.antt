@@ -9,7 +9,7 @@ use Rattle.kernel.specs.declared.Kernel.{Kernel}
 use Rattle.sample.specs.Level.{InRange}
 use Rattle.kernel.specs.Channels.{first, others, channels, dists, owns, InRanges, each, Keeps}
 use Rattle.kernel.specs.Cost.{B}
-use Rattle.kernel.specs.Kernel.{gap, dist, own}
+use Rattle.kernel.specs.Kernel.{gap, dist}
 use Rattle.kernel.specs.Pairs.{δ, sum}
 use Rattle.kernel.proofs.Features.{splits_kernel}
 use Rattle.kernel.proofs.Kernels.{law}

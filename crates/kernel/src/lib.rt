@@ -2,7 +2,6 @@
 
 #![tactic(auto)]
 
-
 ghost use Rattle.std.specs.Prelude.{◌≡◌, ◌^◌, ◌≤◌, ◌<◌};
 ghost use Rattle.cutting.specs.Limits.{most_observations};
 ghost use Rattle.sample.specs.Level.{largest_level};
@@ -12,7 +11,7 @@ ghost use Rattle.kernel.specs.Cost.{units_of};
 // So many units are one of R/m.
 const UNITS: u64 = 4096;
 
-#[derive(Drop)]
+#[derive(Clone, Copy)]
 pub enum Kernel {
     Linear,
     Spelling,
@@ -20,7 +19,7 @@ pub enum Kernel {
 }
 
 // What a kernel's number names.
-#[derive(Drop)]
+#[derive(Clone, Copy)]
 pub enum Named {
     Unknown,
     Known(Kernel),

@@ -16,7 +16,7 @@ const SPACE: u8 = 32;
 const COLON: u8 = 58;
 
 // What a line says: a segment count, the cost in units, and the first index of each segment, unused places 0.
-#[derive(Drop)]
+#[derive(Clone, Copy)]
 pub struct Line {
     pub d: usize,
     pub cost: u64,

@@ -31,7 +31,7 @@ pub const TEXT_ROOM: usize = 6200;
 pub const LINE_ROOM: usize = 96;
 
 // A term's number, and what is asked of its record.
-#[derive(Drop)]
+#[derive(Clone, Copy)]
 struct Term {
     number: u64,
     asked: Asked,

@@ -3,7 +3,7 @@ ghost use Rattle.std.specs.Prelude.{◌≡◌, ◌≤◌, length, take};
 ghost use Rattle.report.specs.Written.{written_of, out_left};
 
 // What a call on a lent buffer has written: so many bytes, or nothing, where the buffer is too short.
-#[derive(Drop)]
+#[derive(Clone, Copy)]
 pub enum Written {
     Bytes(usize),
     TooShort,

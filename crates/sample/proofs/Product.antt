@@ -57,6 +57,8 @@ judged_product (fin s m e) = judged_ratio s (m * up e) (down e)
 
 value_judged : (x : Float) (s : Bool) (a c : ℕ) → 0 < c → HasValue x s a c → judged_product x ≡ judged_ratio s a c
 unfolding judged_product
+value_judged nan s a c C v = elim v [ ]
+value_judged (inf _) s a c C v = elim v [ ]
 value_judged (fin t m e) s a c C v = ratio_same t (m * up e) (down e) a c (down_pos e) C v.1 ∙ ap (λ (u : Bool). judged_ratio u a c) v.0
 
 far_out : (s : Bool) (a c : ℕ) → 1000000 * c < a → judged_ratio s a c ≡ OutOfRange

@@ -8,7 +8,7 @@ use mathlib.Core.Bool.{Bool, true, false, ◌||◌, beq, true≢false}
 use lib.IntN.{ℤ, pos, negsuc}
 use lib.Dec.{T, eqb, eqb→eq, lit<, lit≤}
 use lib.Pow.{pow_pos}
-use lib.Ieee.{Float, fin, binary64, up, down, round, sum, add, sub, neg, eq, le, fits}
+use lib.Ieee.{Float, nan, inf, fin, binary64, up, down, round, sum, add, sub, neg, eq, le, fits}
 use lib.Ieee.Bits.{is_true}
 use lib.Ieee.Fits.{down_pos, round-fits, eq→eqb, and_l}
 use lib.Ieee.Exact.{HasValue}
@@ -29,6 +29,9 @@ abbrev Between : Float → Type 0
 Between y = (n : ℕ) × (HasValue y false n 1) × (n ≤ 2 ^ 53)
 
 high_whole : (y : Float) → T (positive y) → T (fits binary64 y) → ((a c : ℕ) → HasValue y false a c → 2 ^ 52 * c ≤ a) → ((a c : ℕ) → HasValue y false a c → a ≤ 2 ^ 53 * c) → Between y
+high_whole nan p f l u = elim p [ ]
+high_whole (inf _) p f l u = elim p [ ]
+high_whole (fin true m _) p f l u = elim p [ ]
 high_whole (fin false m (pos k)) p f l u =
     let v : HasValue (fin false m (pos k)) false (m * 2 ^ k) 1 = (refl, refl) in
     (m * 2 ^ k, v, omega (arith, u (m * 2 ^ k) 1 v))
@@ -87,6 +90,8 @@ over s n c C h = subst (λ (y : Float). HasValue y s n 1) (sym (round_same binar
 
 taken_below : (y : Float) (n d : ℕ) → HasValue y false n 1 → n + suc d ≡ 3 * 2 ^ 51 → HasValue (sub binary64 y shift) true (suc d) 1
 unfolding sum
+taken_below nan n d v h = elim v [ ]
+taken_below (inf _) n d v h = elim v [ ]
 taken_below (fin true m e) n d v h = absurd (true≢false v.0)
 taken_below (fin false m e) n d v h =
     let c = down e in
@@ -98,6 +103,8 @@ taken_below (fin false m e) n d v h =
 
 taken_above : (y : Float) (n d : ℕ) → HasValue y false n 1 → n ≡ 3 * 2 ^ 51 + d → n ≤ 2 ^ 53 → HasValue (sub binary64 y shift) false d 1
 unfolding sum
+taken_above nan n d v h u = elim v [ ]
+taken_above (inf _) n d v h u = elim v [ ]
 taken_above (fin true m e) n d v h u = absurd (true≢false v.0)
 taken_above (fin false m e) n d v h u =
     let c = down e in
@@ -112,6 +119,8 @@ taken_above (fin false m e) n d v h u =
 -- a value of the whole size q equals x where x has that size and its sign
 equal : (y : Float) (s : Bool) (m : ℕ) (e : ℤ) (q : ℕ) → HasValue y s q 1 → m * up e ≡ q * down e → eq y (fin s m e) ≡ true
 unfolding eq
+equal nan s m e q v h = elim v [ ]
+equal (inf _) s m e q v h = elim v [ ]
 equal (fin t n g) s m e q v h =
     let y_is : n * up g ≡ q * down g = sym (mul-one (n * up g)) ∙ v.1 in
     let same : n * up g * down e ≡ m * up e * down g = ap (λ (x : ℕ). x * down e) y_is ∙ mul_right_comm q (down g) (down e) ∙ ap (λ (x : ℕ). x * down g) (sym h) in
@@ -124,6 +133,8 @@ equal (fin t n g) s m e q v h =
 -- and where x equals it, x has that size
 size_of : (y : Float) (t : Bool) (s : Bool) (m : ℕ) (e : ℤ) (q : ℕ) → HasValue y t q 1 → eq y (fin s m e) ≡ true → m * up e ≡ q * down e
 unfolding eq
+size_of nan t s m e q v h = elim v [ ]
+size_of (inf _) t s m e q v h = elim v [ ]
 size_of (fin u n g) t s m e q v h =
     let y_is : n * up g ≡ q * down g = sym (mul-one (n * up g)) ∙ v.1 in
     let same : n * up g * down e ≡ m * up e * down g =

@@ -20,14 +20,14 @@ const SMALLEST: i64 = -1000000;
 // The level of the sample 0.
 pub const ZERO_LEVEL: usize = 1000000;
 
-#[derive(Drop)]
+#[derive(Clone, Copy)]
 pub enum Sample {
     Count(i64),
     Share(f64),
 }
 
 // The whole number x, or why there is none: the replies 9, 10 and 11.
-#[derive(Drop)]
+#[derive(Clone, Copy)]
 pub enum Judged {
     Whole(i64),
     NotFinite,
@@ -117,7 +117,7 @@ pub fn sample_of(kind: u64, word: u64) -> Sample
 }
 
 // A judged sample as the engine takes it: x + 1,000,000, from 0 to 2,000,000, or the reply's code.
-#[derive(Drop)]
+#[derive(Clone, Copy)]
 pub enum Level {
     At(u64),
     Refused(u64),
