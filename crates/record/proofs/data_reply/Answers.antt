@@ -1,5 +1,4 @@
 -- `record::data_reply` meets its contract: the days' list, then the samples'. Assumes nothing.
-use borrow.Author.Rules.{rules}
 use Rattle.reply.proofs.Answers.{answers}
 use Rattle.record.proofs.data_reply.Goals as goal
 

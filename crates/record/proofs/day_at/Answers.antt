@@ -1,7 +1,6 @@
 -- `record::day_at` meets its contract: a number of 4 bytes fits 32 bits. Assumes nothing.
 use Prim.Native.Nat.{◌*◌}
 use native.Mathlib.Omega.{arith}
-use borrow.Author.Rules.{rules}
 use Rattle.table.proofs.Num.{num_lt}
 use Rattle.record.specs.Body.{day_at}
 use Rattle.record.proofs.day_at.Goals as goal

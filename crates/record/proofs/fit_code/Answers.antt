@@ -1,5 +1,4 @@
 -- `record::fit_code` meets its contract. Assumes nothing.
-use borrow.Author.Rules.{rules}
 use Rattle.reply.proofs.Answers.{answers}
 use Rattle.record.proofs.fit_code.Goals as goal
 

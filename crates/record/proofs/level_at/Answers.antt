@@ -1,5 +1,4 @@
 -- `record::level_at` meets its contract. Assumes nothing.
-use borrow.Author.Rules.{rules}
 use Rattle.record.specs.Body.{judged_at}
 use Rattle.record.proofs.level_at.Goals as goal
 

@@ -1,15 +1,9 @@
 -- `record::samples_reply` meets its contract. The loop's invariant: what is left to try from i on gives the reply.
 -- Assumes nothing.
-use Prim.Native.Nat.{ℕ, ◌-◌}
-use mathlib.Core.Path.{refl, ◌∙◌}
-use mathlib.Core.List.{List}
+use mathlib.Core.Path.{◌∙◌}
 use native.Mathlib.Omega.{arith}
-use borrow.Author.Rules.{rules}
-use Rattle.reply.specs.Tries.{Tries}
-use Rattle.reply.proofs.Answers.{Left, each_stop, each_clear, each_end}
-use Rattle.record.specs.declared.Asked.{Asked}
+use Rattle.reply.proofs.Answers.{each_stop, each_clear, each_end}
 use Rattle.record.specs.Body.{judged_at}
-use Rattle.record.specs.Tries.{sample_try}
 use Rattle.record.proofs.Samples.{refused_level, taken_level}
 use Rattle.record.proofs.samples_reply.Invariants.{here}
 use Rattle.record.proofs.samples_reply.Goals as goal

@@ -1,0 +1,26 @@
+-- `recurrence::least` meets its contract. The loop's invariant: start is the earliest least of the starts tried, lo .. s - 1. Assumes nothing.
+use Prim.Native.Nat.{◌≤◌, ◌<◌, ◌-◌}
+use native.Mathlib.Omega.{arith}
+use mathlib.Core.Path.{◌≡◌, refl, ◌∙◌, ap}
+use mathlib.Core.Logic.{⊎_elim}
+use Rattle.cutting.specs.Recurrence.{Found}
+use Rattle.cutting.proofs.Scan.{found_first, found_lower, found_keep}
+use Rattle.recurrence.specs.Column.{sum_at}
+use Rattle.recurrence.proofs.least.Goals as goal
+
+pub loop-s-init : goal.loop-s-init
+loop-s-init c =
+    let a = c.args in
+    (omega arith, omega arith, ((found_first (sum_at a.costs.now a.row a.c.now) a.lo).0, omega arith))
+
+pub loop-s-preserved : goal.loop-s-preserved
+loop-s-preserved c =
+    let a = c.args in
+    let l = c.loop-s in
+    let f = sum_at a.costs.now a.row a.c.now in
+    let lower = found_lower f a.lo l.s l.cost-1 l.start (f l.s) (omega arith) l.invariant.2 refl in
+    let keep = found_keep f a.lo l.s l.cost-1 l.start (f l.s) (omega arith) l.invariant.2 refl in
+    ⊎_elim
+    (λ w. (omega arith, omega arith, (w.2 ∙ (lower (omega arith)).0, omega (arith, ap f w.2))))
+    (λ w. (omega arith, omega arith, (w.2 ∙ (keep (omega arith)).0, omega (arith, ap f w.2))))
+    c.if-x-cost.branch

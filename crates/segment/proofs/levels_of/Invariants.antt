@@ -1,0 +1,16 @@
+-- `segment::levels_of` meets its contract. The loop's invariant: the levels from the start to i are added.
+-- Assumes nothing.
+use Prim.Native.Nat.{◌-◌, ◌≤◌}
+use mathlib.Core.Path.{◌≡◌}
+use lib.Seq.{slice}
+use Rattle.kernel.specs.Pairs.{sum}
+use Rattle.sample.specs.Level.{level}
+use Rattle.record.specs.Body.{samples}
+use Rattle.segment.proofs.levels_of.Given as goal
+
+abbrev pub invariant-loop-i : goal.invariant-loop-i
+invariant-loop-i l =
+    (l.start ≤ l.i) × (l.i ≤ l.end) × (l.total ≡ sum level (slice l.start l.i (samples l.asked l.body)))
+
+abbrev pub decreases-loop-i : goal.decreases-loop-i
+decreases-loop-i l = l.end - l.i
