@@ -33,8 +33,8 @@ pub struct Size {
 
 // The least of a row's entries plus the last segment's costs, at s from lo to hi - 1, and the earliest s that has it.
 fn least(costs: &[u8], row: usize, c: &[u64; MOST_OBSERVATIONS], lo: usize, hi: usize) -> Best
-    requires lo_lt_hi { (lo < hi) × (hi ≤ most_observations) × (cost_bytes * (row + hi) ≤ length costs.now) }
-    requires by_index { (s : ℕ) → lo ≤ s → s < hi → sum_at costs.now row c.now s < 2 ^ 64 }
+    requires within { (lo < hi) × (hi ≤ most_observations) × (cost_bytes * (row + hi) ≤ length costs.now) }
+    requires sums { (s : ℕ) → lo ≤ s → s < hi → sum_at costs.now row c.now s < 2 ^ 64 }
     ensures { Found (sum_at costs.now row c.now) lo hi result.cost result.start }
 {
     let mut cost = table::load(costs, COST_BYTES * (row + lo), COST_BYTES) + c[lo];
@@ -53,8 +53,8 @@ fn least(costs: &[u8], row: usize, c: &[u64; MOST_OBSERVATIONS], lo: usize, hi: 
 
 // What row d of column t is to hold: the marks where no cutting is.
 fn best_at(costs: &[u8], c: &[u64; MOST_OBSERVATIONS], size: Size, d: usize, t: usize) -> Best
-    requires n_le_most_observations { (size.n ≤ most_observations) × (size.dmax ≤ most_segments) × (t ≤ size.n) × (d < size.dmax) }
-    requires n_in_bounds { cost_bytes * (size.dmax * (size.n + 1)) ≤ length costs.now }
+    requires within { (size.n ≤ most_observations) × (size.dmax ≤ most_segments) × (t ≤ size.n) × (d < size.dmax) }
+    requires room { cost_bytes * (size.dmax * (size.n + 1)) ≤ length costs.now }
     requires sums { Sums size costs.now c.now t }
     ensures cost_value { result.cost ≡ cell_cost size costs.now c.now t d }
     ensures start_value { result.start ≡ cell_start size costs.now c.now t d }
@@ -101,7 +101,7 @@ fn column(costs: &mut [u8], starts: &mut [u8], c: &[u64; MOST_OBSERVATIONS], siz
 
 // Observation t joins the tails of those before it, and starts its own.
 fn grow(k: Kernel, u: &[u64], a: &mut [u64], t: usize)
-    requires t_in_bounds { (t < length u.now) × (t < length a.old) × (t < most_observations) }
+    requires within { (t < length u.now) × (t < length a.old) × (t < most_observations) }
     requires levels { Levels u.now }
     requires tails { Tails k u.now t a.old }
     ensures { Tails k u.now (t + 1) a.new }
@@ -117,8 +117,8 @@ fn grow(k: Kernel, u: &[u64], a: &mut [u64], t: usize)
 
 // The cost in units of each last segment of the first t, by its start, from the tails.
 fn price(a: &[u64], c: &mut [u64], t: usize)
-    requires t_in_bounds { (t ≤ length a.now) × (t ≤ length c.old) × (t ≤ most_observations) }
-    requires by_index { (s : ℕ) → s < t → get_or a.now s 0 ≤ most_tail }
+    requires within { (t ≤ length a.now) × (t ≤ length c.old) × (t ≤ most_observations) }
+    requires tails { (s : ℕ) → s < t → get_or a.now s 0 ≤ most_tail }
     ensures { Prices (tail_cost a.now) t c.new }
 {
     let mut s = t;

@@ -1,27 +1,32 @@
--- `recurrence::best_at` meets its contract: the three kinds of entry. Assumes nothing.
-use borrow.Author.Rules.{rules}
-use Prim.Native.Nat.{◌-◌, ◌+◌}
+-- `recurrence::best_at` meets its contract: the three kinds of entry.
+use Rattle.std.proofs.Common.{◌-◌, ◌+◌, arith}
 use native.Mathlib.Nat.{mul-le-mul}
-use native.Mathlib.Omega.{arith}
 use Rattle.table.proofs.Fill.{cell_below}
 use Rattle.cutting.specs.Limits.{most_observations, most_segments, least_length}
 use Rattle.cutting.proofs.Table.{from_none, from_one, from_more}
 use Rattle.recurrence.proofs.best_at.Goals as goal
 
-pub returns-then-t-d-clause-cost_value : goal.returns-then-t-d-clause-cost_value
-returns-then-t-d-clause-cost_value c = ?
+pub returns-then-t-d : goal.returns-then-t-d
+returns-then-t-d c = record {
+  cost_value = (from_none _ least_length _ _ _ (omega arith)).0;
+  start_value = (from_none _ least_length _ _ _ (omega arith)).1;
+}
 
-pub returns-then-t-d-clause-start_value : goal.returns-then-t-d-clause-start_value
-returns-then-t-d-clause-start_value c = ?
+pub returns-then-d-eq0 : goal.returns-then-d-eq0
+returns-then-d-eq0 c = record {
+  cost_value = (from_one _ least_length _ _ _ (omega arith) (omega arith)).0;
+  start_value = (from_one _ least_length _ _ _ (omega arith) (omega arith)).1;
+}
 
-pub returns-then-d-eq0-clause-cost_value : goal.returns-then-d-eq0-clause-cost_value
-returns-then-d-eq0-clause-cost_value c = ?
+pub least-requires : goal.least-requires
+least-requires c =
+    let a = c.args in record {
+      within = (omega arith, omega arith, omega (arith, cell_below a.size.n (a.d - 1) a.size.dmax a.t (omega arith) (omega arith)));
+      sums = λ s l h. c.requires.sums (a.d - 1) s (omega arith) (omega arith) (omega arith);
+    }
 
-pub returns-then-d-eq0-clause-start_value : goal.returns-then-d-eq0-clause-start_value
-returns-then-d-eq0-clause-start_value c = ?
-
-pub returns-clause-cost_value : goal.returns-clause-cost_value
-returns-clause-cost_value c = ?
-
-pub returns-clause-start_value : goal.returns-clause-start_value
-returns-clause-start_value c = ?
+pub returns : goal.returns
+returns c = record {
+  cost_value = (from_more _ least_length _ _ _ (omega arith) (λ z. omega arith) _ _ _ (omega arith) c.least.ensures).0;
+  start_value = (from_more _ least_length _ _ _ (omega arith) (λ z. omega arith) _ _ _ (omega arith) c.least.ensures).1;
+}

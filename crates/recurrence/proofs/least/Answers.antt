@@ -7,6 +7,7 @@ use Rattle.cutting.specs.Recurrence.{Found}
 use Rattle.cutting.proofs.Scan.{found_first, found_lower, found_keep}
 use Rattle.recurrence.specs.Column.{sum_at}
 use Rattle.recurrence.proofs.least.Goals as goal
+use Rattle.recurrence.proofs.least.Goals.{then-x-cost, else-x-cost}
 
 pub loop-s-init : goal.loop-s-init
 loop-s-init c =
@@ -18,9 +19,9 @@ loop-s-preserved c =
     let a = c.args in
     let l = c.loop-s in
     let f = sum_at a.costs.now a.row a.c.now in
-    let lower = found_lower f a.lo l.s l.cost-1 l.start (f l.s) (omega arith) l.invariant.2 refl in
-    let keep = found_keep f a.lo l.s l.cost-1 l.start (f l.s) (omega arith) l.invariant.2 refl in
-    ⊎_elim
-    (λ w. (omega arith, omega arith, (w.2 ∙ (lower (omega arith)).0, omega (arith, ap f w.2))))
-    (λ w. (omega arith, omega arith, (w.2 ∙ (keep (omega arith)).0, omega (arith, ap f w.2))))
-    c.if-x-cost.branch
+    let lower = found_lower f a.lo l.s l.cost l.start (f l.s) (omega arith) l.invariant.2 refl in
+    let keep = found_keep f a.lo l.s l.cost l.start (f l.s) (omega arith) l.invariant.2 refl in
+    elim c.if-x-cost.branch [
+      | then-x-cost w ↦ (omega arith, omega arith, (w.start-is ∙ (lower (omega arith)).0, omega (arith, ap f w.start-is)))
+      | else-x-cost w ↦ (omega arith, omega arith, (w.start-is ∙ (keep (omega arith)).0, omega (arith, ap f w.start-is)))
+    ]
