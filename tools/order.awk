@@ -1,31 +1,22 @@
-# levels.awk: the crates that one is made of, itself last, off crates.txt. A word is a level: crates,
-# joined by commas, that lean on those of the levels before it alone.
+# order.awk: the crates that one is made of, off crates.txt, a line each: behind those that it leans on, the crate itself last.
 #
-#   awk -v crate=NAME -f tools/levels.awk crates.txt
+#   awk -v crate=NAME -f tools/order.awk crates.txt
 
-# How deep a crate stands: 1 if it leans on no other of crates.txt.
-function depth(name,    i, below) {
-    if (name in level) return level[name]
-    level[name] = 1
-    for (i = 2; i <= size[name]; i++) {
-        if ((line[name, i] in size) && (below = depth(line[name, i])) >= level[name]) level[name] = below + 1
-    }
-    return level[name]
+# Tells a crate behind all that it leans on. What is no line of crates.txt is a library of the kit.
+function tell(name,    below, count, i) {
+    if (!(name in uses) || (name in told)) return
+    told[name] = 1
+    count = split(uses[name], below)
+    for (i = 1; i <= count; i++) tell(below[i])
+    print name
 }
 
 { sub(/#.*/, "") }
 
-/^[a-z0-9_]+:/ {
-    name = substr($1, 1, length($1) - 1)
-    listed[++count] = name
-    size[name] = NF
-    for (i = 2; i <= NF; i++) line[name, i] = $i
+# A name, maybe the kind of crate, and behind a colon what it leans on.
+/^[a-z0-9_]+[^:]*:/ {
+    match($0, /^[a-z0-9_]+/)
+    uses[substr($0, 1, RLENGTH)] = substr($0, index($0, ":") + 1)
 }
 
-END {
-    depth(crate)
-    for (i = 1; i <= count; i++) {
-        if (listed[i] in level) at[level[listed[i]]] = at[level[listed[i]]] "," listed[i]
-    }
-    for (deep = 1; deep in at; deep++) print substr(at[deep], 2)
-}
+END { tell(crate) }
