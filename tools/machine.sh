@@ -1,5 +1,6 @@
 # machine.sh, to be sourced: how this machine compiles and runs programs for x86-64,
-# which the archive libtawinrak.a and the program cuts are made for.
+# which the archive libtawinrak.a and the program cuts are made for. Another machine needs a kit
+# that has an emulator for it, in on/MACHINE/toolchain.
 #
 #   CC             compiles C for x86-64 (programs are linked with -static)
 #   AR, NM         makes an archive of such objects; lists the symbols of one

@@ -6,9 +6,11 @@
 #   need_cuts             sets CUTS to the program cuts
 #   need_example NAME     sets EXAMPLE to the program of examples/NAME.c
 
-# One sum over the names and bytes of the files and of all files in the folders, named from root.
+# One sum over the names and bytes of the files and of all files in the folders, named from root. What rt
+# keeps and makes in crates/NAME/out is left out.
 sum_of() { # PATH...
-    (cd "$root" && find -L "$@" -type f -print0 | LC_ALL=C sort -z | xargs -0 sha256sum | sha256sum) 2>/dev/null
+    (cd "$root" && find -L "$@" -path 'crates/*/out' ! -path 'crates/*/*/out' -prune -o -type f -print0 |
+        LC_ALL=C sort -z | xargs -0 sha256sum | sha256sum) 2>/dev/null
 }
 
 stamp_of() { echo "$root/target/made/$(basename "$1")"; }
@@ -37,40 +39,45 @@ need_part() { # PART SOURCES COMMAND...
     ) 9>"$root/target/made/lock"
 }
 
-# Runs rt and keeps what it says in the log, showing it if rt fails.
-run_rt() { # LOG VERB NAME...
-    log=$1
-    shift
-    before=$(wc -c <"$log")
-    if (cd "$root" && rt "$@") </dev/null >>"$log" 2>&1; then return 0; fi
-    tail -c "+$((before + 1))" "$log" >&2
-    printf 'rt %s failed; all that rt said is in %s\n' "$*" "$log" >&2
-    return 1
-}
+# Has rt prove and build a crate, and keeps what rt says in the log. A program rt also runs, here on no input:
+# what that prints is dropped, and what rt says is on standard error.
+build_crate() ( # CRATE LOG
+    cd "$root/crates/$1" || exit
+    if [ -f src/main.rt ]; then
+        exec rt run </dev/null 2>>"$2" >/dev/null
+    else
+        exec rt lib </dev/null >>"$2" 2>&1
+    fi
+)
 
-# Proves all that a crate is made of, a line each on standard error, then makes the crate itself.
-prove() { # VERB CRATE
-    log=$root/target/log/making-$2 at=0
+# Proves and builds all that a crate is made of, a line each on standard error, itself last, and copies what
+# rt made of it to where the part stands. Shows what rt says if it fails.
+prove() { # CRATE PART
+    log=$root/target/log/making-$1 at=0
     command -v rt >/dev/null 2>&1 || { echo "rt, of the Rattle kit, is missing" >&2 && return 1; }
-    mkdir -p "$root/target/log" && true >"$log" || return
-    levels=$(awk -v crate="$2" -f "$root/tools/levels.awk" "$root/crates.txt")
-    count=$(echo "$levels" | tr , '\n' | wc -l)
-    for level in $levels; do
-        names=$(echo "$level" | tr , ' ')
-        for name in $names; do at=$((at + 1)) && echo "proving $at of $count: $name" >&2; done
-        if [ "$names" = "$2" ]; then verb=$1; else verb=check; fi
-        run_rt "$log" "$verb" $names || return
+    mkdir -p "$root/target/log" "$root/$(dirname "$2")" && true >"$log" || return
+    names=$(awk -v crate="$1" -f "$root/tools/order.awk" "$root/crates.txt")
+    count=$(echo "$names" | wc -l)
+    for name in $names; do
+        at=$((at + 1)) before=$(wc -c <"$log")
+        echo "proving $at of $count: $name" >&2
+        build_crate "$name" "$log" || {
+            tail -c "+$((before + 1))" "$log" >&2
+            echo "rt failed in crates/$name; all that rt said is in $log" >&2
+            return 1
+        }
     done
+    cp "$root/crates/$1/out/$(basename "$2")" "$root/$2.new" && mv "$root/$2.new" "$root/$2"
 }
 
 need_archive() {
     ARCHIVE=$root/target/staticlib/libtawinrak.a
-    need_part target/staticlib/libtawinrak.a "crates crates.txt" prove staticlib tawinrak
+    need_part target/staticlib/libtawinrak.a "crates crates.txt" prove tawinrak target/staticlib/libtawinrak.a
 }
 
 need_cuts() {
     CUTS=$root/target/bin/cuts
-    need_part target/bin/cuts "crates crates.txt" prove check cuts
+    need_part target/bin/cuts "crates crates.txt" prove cuts target/bin/cuts
 }
 
 # Compiles examples/NAME.c, with what stands in examples/NAME if there is such a folder. The program

@@ -1,17 +1,21 @@
 # building.sh: the building of what is missing, in a copy of the tree with a quick stand-in for rt.
 
 # The stand-in for rt makes parts by copying them, keeps a note of its calls in 'called', and fails
-# where there is a file 'broken' or where another call is under way.
+# where there is a file 'broken' or where another call is under way. Like rt it runs a program that it makes,
+# and then says its own words on standard error.
 make_tree() {
     tree=$(mktemp -d) && chmod 755 "$tree" && mkdir "$tree/kit" || return
-    for part in cuts pack tools include examples crates crates.txt; do cp -R "$root/$part" "$tree"; done
+    tar -C "$root" -cf - --exclude 'crates/*/out' cuts pack tools include examples crates crates.txt |
+        tar -C "$tree" --no-same-owner -xf - || return
     cat >"$tree/kit/rt" <<END
 #!/bin/sh
-echo "notes of rt \$*" | tee -a "$tree/called"
+if [ "\$1" = run ]; then exec 3>&2; else exec 3>&1; fi
+echo "notes of rt \$* in \${PWD##*/}" | tee -a "$tree/called" >&3
 mkdir "$tree/busy" && [ ! -e "$tree/broken" ] || exit 1
-case \$* in
-'check cuts') mkdir -p target/bin && cp "$CUTS" target/bin/cuts ;;
-'staticlib tawinrak') mkdir -p target/staticlib && cp "$ARCHIVE" target/staticlib ;;
+mkdir -p out
+case "\$* \${PWD##*/}" in
+'run cuts') cp "$CUTS" out/cuts && echo "what the program prints" ;;
+'lib tawinrak') cp "$ARCHIVE" out/libtawinrak.a ;;
 esac
 rmdir "$tree/busy"
 END
@@ -68,7 +72,7 @@ broken_build() { # COMMAND LOG
     change_a_crate && : >"$tree/broken"
     ends_with 3 copied "$1" "$tree/examples/year.txt" >"$made/output" 2>"$made/words" || return
     rm -r "$tree/broken" "$tree/busy"
-    [ ! -s "$made/output" ] && grep -q '^notes of rt check' "$made/words" && grep -q '^notes of rt check' "$tree/target/log/$2" &&
+    [ ! -s "$made/output" ] && grep -q '^notes of rt lib' "$made/words" && grep -q '^notes of rt lib' "$tree/target/log/$2" &&
         [ "$(tail -n 1 "$made/words")" = "$1: the program cannot be built" ] && copied cuts
 }
 

@@ -3,65 +3,80 @@
 
 #![tactic(auto)]
 
-ghost use Rattle.std.specs.Prelude.{◌≡◌, ◌<◌};
+ghost use Rattle.std.specs.Prelude.{◌≡◌, ◌<◌, ◌≤◌, length};
 ghost use Rattle.file.specs.Contents.{count_in};
 ghost use Rattle.file.specs.Tries.{read_reply};
 
-use libc::{STDIN_FILENO, STDOUT_FILENO};
 use report::Written;
+use std::io::Read;
 
 // One byte more than the longest file has.
 const INPUT_ROOM: usize = 65537;
 
 // Writes out a text that stands at the front of a buffer, and answers whether all of it went.
-fn print_text(w: Written, text: &[u8]) -> bool {
+fn print_text(rt: &impl Print, w: Written, text: &[u8]) -> bool {
     match w {
         Written::Bytes(n) => {
             if text.len() < n {
                 return false;
             }
-            io::write_all(STDOUT_FILENO, &text[..n])
+            rt.write_all(&text[..n]).is_ok()
         }
         Written::TooShort => false,
     }
 }
 
 // The lines of entry i.
-fn print_term(file: &[u8], i: usize) -> bool
+fn print_term(rt: &impl Print, file: &[u8], i: usize) -> bool
     requires { ((read_reply file.now).code ≡ 0) × (i < count_in file.now) }
 {
     let mut text = [0u8; report::TEXT_ROOM];
     let w = report::term_lines(file, i, &mut text);
-    print_text(w, &text)
+    print_text(rt, w, &text)
 }
 
 // The lines of all terms, to the first that cannot be written.
-fn print_terms(file: &[u8])
+fn print_terms(rt: &impl Print, file: &[u8])
     requires { (read_reply file.now).code ≡ 0 }
 {
-    let count = file::count_of(file);
-    let mut i = 0;
-    while i < count {
-        if !print_term(file, i) {
+    for i in 0..file::count_of(file) {
+        if !print_term(rt, file, i) {
             return;
         }
-        i += 1;
     }
 }
 
-fn print_file(file: &[u8]) {
+fn print_file(rt: &impl Print, file: &[u8]) {
     let r = file::read_file(file);
     if r.code != 0 {
         let mut line = [0u8; report::LINE_ROOM];
         let w = report::file_line(r, &mut line);
-        print_text(w, &line);
+        print_text(rt, w, &line);
         return;
     }
-    print_terms(file);
+    print_terms(rt, file);
 }
 
-fn main() {
+// Reads until the buffer is full, the input ends or a read fails, and answers how many bytes stand at its front.
+fn read_full(input: &mut impl Read, buf: &mut [u8]) -> usize
+    ensures { result ≤ length buf.new }
+{
+    let mut done = 0;
+    while done < buf.len() {
+        let n = match input.read(&mut buf[done..]) {
+            Ok(n) => n,
+            Err(_) => 0,
+        };
+        if n == 0 {
+            break;
+        }
+        done += n;
+    }
+    done
+}
+
+fn main(rt: HostRuntime) {
     let mut input = [0u8; INPUT_ROOM];
-    let n = io::read_full(STDIN_FILENO, &mut input);
-    print_file(&input[..n]);
+    let n = read_full(&mut rt.stdin(), &mut input);
+    print_file(&rt, &input[..n]);
 }
