@@ -1,41 +1,43 @@
 -- `segment::levels_of` meets its contract. The loop's invariant: the levels from the start to i are added.
--- Assumes nothing.
-use Prim.Native.Nat.{◌+◌, ◌-◌, ◌*◌, ◌≤◌}
-use mathlib.Core.Path.{◌≡◌, ap, ◌∙◌}
-use native.Mathlib.Omega.{arith}
-use mathlib.Core.List.{List}
-use lib.IntN.{ℤ}
+use Rattle.std.proofs.Common.{ℕ, List, ◌+◌, ◌*◌, ◌≤◌, ◌<◌, ◌≡◌, ap, ◌∙◌, arith}
 use lib.Seq.{slice}
 use Rattle.cutting.specs.Limits.{most_observations}
 use Rattle.kernel.specs.Pairs.{sum}
 use Rattle.sample.specs.Level.{level, largest_level}
 use Rattle.sample.specs.declared.Level.{Level}
-use Rattle.record.specs.Body.{samples, level_number}
+use Rattle.sample.specs.Code.{level_of}
+use Rattle.record.specs.declared.Asked.{Asked}
+use Rattle.record.specs.Body.{samples, judged_at, level_number}
+use Rattle.segment.specs.Summary.{Stretch}
 use Rattle.segment.proofs.Sum.{none_added, one_added, added_small}
 use Rattle.segment.proofs.levels_of.Goals as goal
 
 -- the level at i is added to the levels before it
-module _ (c : tie.After-level-at invariant-loop decreases-loop) where
-  abbrev start : tie.Start invariant-loop decreases-loop
-  start = c
-
-  abbrev xs : List ℤ
-  xs = samples start.args.asked start.args.body.now
-
-  added : c.loop-i.total + level_number c.level_at-l.result ≡ sum level (slice start.args.first.0 (c.loop-i.i + 1) xs)
+module _ (asked : Asked) (body : List ℕ) (first len : ℕ) (stretch : Stretch asked body first len) (i total : ℕ)
+    (from : first ≤ i) (upto : i < first + len) (sum_is : total ≡ sum level (slice first i (samples asked body)))
+    (v : Level) (is : v ≡ level_of (judged_at asked body i)) where
+  added : total + level_number v ≡ sum level (slice first (i + 1) (samples asked body))
   added =
-      let a = start.args in
-      let l = c.loop-i in
-      ap (λ (v : Level). l.total + level_number v) c.level_at-l.ensures
-      ∙ one_added a.asked a.body.now a.first.0 a.len start.pre l.i l.total l.invariant.0 (omega arith) l.invariant.2
+      ap (λ (v : Level). total + level_number v) is
+      ∙ one_added asked body first len stretch i total from upto sum_is
 
-  added_fits : sum level (slice start.args.first.0 (c.loop-i.i + 1) xs) ≤ most_observations * largest_level
-  added_fits =
-      let a = start.args in
-      added_small a.asked a.body.now a.first.0 a.len start.pre (c.loop-i.i + 1) (omega arith)
+  added_fits : total + level_number v ≤ most_observations * largest_level
+  added_fits = omega (arith, added, added_small asked body first len stretch (i + 1) (omega arith))
+
+pub loop-i-init : goal.loop-i-init
+loop-i-init c =
+    let a = c.args in
+    (omega arith, omega arith, none_added a.asked a.body.now a.first.0 a.len c.requires)
 
 pub with_level-total-requires : goal.with_level-total-requires
-with_level-total-requires c = omega (arith, added c, added_fits c)
+with_level-total-requires c =
+    let a = c.args in
+    let l = c.loop-i in
+    omega (arith, added_fits a.asked a.body.now a.first.0 a.len c.requires l.i l.total l.invariant.0 (omega arith) l.invariant.2 _ c.level_at-l.ensures)
 
 pub loop-i-preserved : goal.loop-i-preserved
-loop-i-preserved c = (omega arith, omega arith, c.with_level-total.ensures ∙ added c)
+loop-i-preserved c =
+    let a = c.args in
+    let l = c.loop-i in
+    let more = added a.asked a.body.now a.first.0 a.len c.requires l.i l.total l.invariant.0 (omega arith) l.invariant.2 _ c.level_at-l.ensures in
+    (omega arith, omega arith, c.with_level-total.ensures ∙ more)

@@ -1,17 +1,17 @@
--- `segment::sum_of` meets its contract. Assumes nothing.
-use Prim.Native.Nat.{ℕ, ◌+◌, ◌*◌, ◌≤◌, ◌<◌, ◌^◌}
-use mathlib.Core.Path.{◌≡◌, sym, ap, ap₂, ◌∙◌}
-use native.Mathlib.Omega.{arith}
+-- `segment::sum_of` meets its contract.
+use Rattle.std.proofs.Common.{ℕ, List, ◌+◌, ◌*◌, ◌≤◌, ◌<◌, ◌^◌, ◌≡◌, sym, ap, ◌∙◌, arith}
+use mathlib.Core.Path.{ap₂}
 use lib.IntN.{ℤ, pos, negsuc, nat_abs, ◌+ℤ◌, ◌-ℤ◌}
 use mir.Syntax.{w64}
 use mir.Val.{SFits, to_z}
 use mir.ValLaws.{to_z_pos, to_z-of_z}
-use borrow.Author.Rules.{rules}
 use Rattle.cutting.specs.Limits.{most_observations}
-use Rattle.sample.specs.Level.{largest, largest_level}
+use Rattle.sample.specs.Level.{level, largest, largest_level}
 use Rattle.kernel.proofs.Diff.{◌⊖◌, ⊖-eq, ⊖-add, ⊖-neg, pos-⊖}
+use Rattle.kernel.specs.Pairs.{sum}
+use Rattle.record.specs.declared.Asked.{Asked}
 use Rattle.record.specs.Body.{samples}
-use Rattle.segment.specs.Summary.{stretch_of, most_sum, sum_of}
+use Rattle.segment.specs.Summary.{Stretch, stretch_of, most_sum, sum_of}
 use Rattle.segment.proofs.Sum.{levels_small, sum_is, sum_small}
 use Rattle.segment.proofs.sum_of.Goals as goal
 
@@ -26,38 +26,38 @@ small_fits : (z : ℤ) → nat_abs z ≤ most_sum → SFits w64 z
 small_fits (pos n) h = record { sfits = omega arith }
 small_fits (negsuc n) h = record { sfits = omega arith }
 
-module _ (c : tie.After-levels-of) where
-  abbrev start : tie.Start
-  start = c
-
-  levels_fit : c.levels_of-levels.result ≤ most_observations * largest_level
-  levels_fit =
-      let a = start.args in
-      omega (arith, c.levels_of-levels.ensures, levels_small a.asked a.body.now a.first.0 a.len start.pre)
+module _ (asked : Asked) (body : List ℕ) (first len : ℕ) (stretch : Stretch asked body first len) (r : ℕ)
+    (is : r ≡ sum level (stretch_of (samples asked body) first len)) where
+  levels_fit : r ≤ most_observations * largest_level
+  levels_fit = omega (arith, is, levels_small asked body first len stretch)
 
   abbrev total : ℤ
-  total = sum_of (stretch_of (samples start.args.asked start.args.body.now) start.args.first.0 start.args.len)
+  total = sum_of (stretch_of (samples asked body) first len)
 
-  is_sum : to_z w64 c.levels_of-levels.result -ℤ to_z w64 (largest * start.args.len) ≡ total
+  is_sum : to_z w64 r -ℤ to_z w64 (largest * len) ≡ total
   is_sum =
-      let a = start.args in
-      let l : c.levels_of-levels.result < 2 ^ 63 = omega (arith, levels_fit) in
-      let m : largest * a.len < 2 ^ 63 = omega arith in
-      rw (to_z_pos w64 c.levels_of-levels.result l, to_z_pos w64 (largest * a.len) m)
-      (difference c.levels_of-levels.result (largest * a.len)
-      ∙ ap (λ (n : ℕ). n ⊖ largest * a.len) c.levels_of-levels.ensures
-      ∙ sym (sum_is a.asked a.body.now a.first.0 a.len start.pre))
+      let l : r < 2 ^ 63 = omega (arith, levels_fit) in
+      let m : largest * len < 2 ^ 63 = omega (arith, stretch.within, stretch.few) in
+      rw (to_z_pos w64 r l, to_z_pos w64 (largest * len) m)
+      (difference r (largest * len)
+      ∙ ap (λ (n : ℕ). n ⊖ largest * len) is
+      ∙ sym (sum_is asked body first len stretch))
 
-  sum_fits : SFits w64 (to_z w64 c.levels_of-levels.result -ℤ to_z w64 (largest * start.args.len))
-  sum_fits =
-      let a = start.args in
-      rw is_sum (small_fits total (sum_small a.asked a.body.now a.first.0 a.len start.pre))
+  sum_fits : SFits w64 (to_z w64 r -ℤ to_z w64 (largest * len))
+  sum_fits = rw is_sum (small_fits total (sum_small asked body first len stretch))
 
 pub overflow_cast-result : goal.overflow_cast-result
-overflow_cast-result c = omega (arith, levels_fit c)
+overflow_cast-result c =
+    let a = c.args in
+    omega (arith, levels_fit a.asked a.body.now a.first.0 a.len c.requires _ c.levels_of-levels.ensures)
 
 pub overflow_sub-result : goal.overflow_sub-result
-overflow_sub-result c = sum_fits c
+overflow_sub-result c =
+    let a = c.args in
+    sum_fits a.asked a.body.now a.first.0 a.len c.requires _ c.levels_of-levels.ensures
 
 pub returns : goal.returns
-returns c = to_z-of_z w64 _ (sum_fits c) ∙ is_sum c
+returns c =
+    let a = c.args in
+    to_z-of_z w64 _ (sum_fits a.asked a.body.now a.first.0 a.len c.requires _ c.levels_of-levels.ensures)
+    ∙ is_sum a.asked a.body.now a.first.0 a.len c.requires _ c.levels_of-levels.ensures
