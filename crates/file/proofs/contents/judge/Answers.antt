@@ -10,10 +10,10 @@ returns-then-r-ne0 c = search judge_stop
 
 pub returns-then-left-gt0 : goal.returns-then-left-gt0
 returns-then-left-gt0 c =
-    let over : c.judge_entries-r.result-1.end < c.args.c.limit = omega arith in
+    let over : c.judge_entries-r.result.end < c.args.c.limit = omega arith in
     search judge_left
 
 pub returns : goal.returns
 returns c =
-    let none : c.args.c.limit ≤ c.judge_entries-r.result-1.end = omega arith in
+    let none : c.args.c.limit ≤ c.judge_entries-r.result.end = omega arith in
     search judge_done
