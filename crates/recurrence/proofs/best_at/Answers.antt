@@ -1,8 +1,7 @@
 -- `recurrence::best_at` meets its contract: the three kinds of entry.
-use Rattle.std.proofs.Common.{◌-◌, ◌+◌, arith}
-use native.Mathlib.Nat.{mul-le-mul}
+use Rattle.std.proofs.Common.{◌-◌, arith}
 use Rattle.table.proofs.Fill.{cell_below}
-use Rattle.cutting.specs.Limits.{most_observations, most_segments, least_length}
+use Rattle.cutting.specs.Limits.{least_length}
 use Rattle.cutting.proofs.Table.{from_none, from_one, from_more}
 use Rattle.recurrence.proofs.best_at.Goals as goal
 

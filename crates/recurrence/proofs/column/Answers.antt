@@ -1,12 +1,8 @@
 -- `recurrence::column` meets its contract. The loop's invariant: the rows below d of column t are filled, and nothing else has changed. Assumes nothing.
-use Prim.Native.Nat.{◌≤◌, ◌<◌, ◌-◌, ◌+◌, ◌*◌}
-use native.Mathlib.Nat.{mul-le-mul}
 use native.Mathlib.Omega.{arith}
-use mathlib.Core.Path.{◌≡◌, sym, ◌∙◌, ap}
-use lib.ListN.{length}
-use Rattle.table.specs.Fill.{cell, fill_column}
-use Rattle.table.proofs.Fill.{column_none, column_more, column_length, cell_below}
-use Rattle.cutting.specs.Limits.{most_observations, most_segments, least_length, cost_bytes, start_bytes}
+use mathlib.Core.Path.{◌≡◌, sym, ◌∙◌}
+use Rattle.table.proofs.Fill.{column_none, column_more}
+use Rattle.cutting.specs.Limits.{least_length, cost_bytes, start_bytes}
 use Rattle.recurrence.specs.Column.{cell_cost, cell_start}
 use Rattle.recurrence.proofs.Entries.{row_kept, cost_kept, start_kept}
 use Rattle.recurrence.proofs.column.Goals as goal

@@ -1,5 +1,5 @@
 -- `recurrence::fill_tables` meets its contract. The loop's invariant: the columns below t are filled, and the tails and the costs are those at t.
-use Rattle.std.proofs.Common.{◌+◌, ◌*◌, ◌-◌, ◌≤◌, ◌<◌, ◌≡◌, refl, sym, ◌∙◌, ℕ, List, length, arith}
+use Rattle.std.proofs.Common.{◌+◌, ◌*◌, ◌≤◌, ◌≡◌, refl, sym, ◌∙◌, ℕ, List, length, arith}
 use Rattle.cutting.specs.Limits.{most_observations, least_length, cost_bytes, start_bytes}
 use Rattle.cutting.specs.Table.{cost_at}
 use Rattle.kernel.specs.declared.Kernel.{Kernel}

@@ -1,12 +1,10 @@
 -- `recurrence::grow` meets its contract. The loop's invariant: the tails below s have sample t, and those from s on have it not yet. Assumes nothing.
-use Prim.Native.Nat.{ℕ, ◌≤◌, ◌<◌, ◌-◌, ◌+◌}
 use native.Mathlib.Omega.{arith}
-use mathlib.Core.Path.{◌≡◌, refl, sym, ◌∙◌}
-use lib.ListN.{length, get_or, length-set}
+use mathlib.Core.Path.{◌∙◌}
+use lib.ListN.{get_or, length-set}
 use lib.Seq.{get_or-set_other}
 use Rattle.table.proofs.Num.{set_more}
-use Rattle.recurrence.specs.Weight.{tail}
-use Rattle.recurrence.proofs.Weight.{tail_none, tail_more, tail_small, between_small}
+use Rattle.recurrence.proofs.Weight.{tail_more, tail_small, between_small}
 use Rattle.recurrence.proofs.grow.Goals as goal
 
 pub overflow_add-a : goal.overflow_add-a

@@ -1,9 +1,6 @@
 -- `recurrence::least` meets its contract. The loop's invariant: start is the earliest least of the starts tried, lo .. s - 1. Assumes nothing.
-use Prim.Native.Nat.{◌≤◌, ◌<◌, ◌-◌}
 use native.Mathlib.Omega.{arith}
-use mathlib.Core.Path.{◌≡◌, refl, ◌∙◌, ap}
-use mathlib.Core.Logic.{⊎_elim}
-use Rattle.cutting.specs.Recurrence.{Found}
+use mathlib.Core.Path.{refl, ◌∙◌, ap}
 use Rattle.cutting.proofs.Scan.{found_first, found_lower, found_keep}
 use Rattle.recurrence.specs.Column.{sum_at}
 use Rattle.recurrence.proofs.least.Goals as goal

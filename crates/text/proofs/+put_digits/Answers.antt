@@ -1,6 +1,6 @@
 -- `text::put_digits` meets its contract: the last digit stands behind those of n / 10.
 use Rattle.std.proofs.Common.{◌-◌, ◌/◌, arith}
-use Rattle.text.proofs.Pieces.{then, retell, one_digit, more_digits, fewer, digits_length}
+use Rattle.text.proofs.Pieces.{then, retell, one_digit, more_digits, digits_length}
 use Rattle.text.proofs.+put_digits.Goals as goal
 
 pub returns-then-n-lt10 : goal.returns-then-n-lt10

@@ -1,12 +1,11 @@
 -- `text::put_word` meets its contract. The loop's invariant: the first i bytes are put. Assumes nothing.
-use Prim.Native.Nat.{ℕ, ◌-◌, ◌≤◌}
+use Prim.Native.Nat.{ℕ}
 use mathlib.Core.Path.{sym, ap, ◌∙◌}
 use native.Mathlib.Numerals.{add-one}
 use native.Mathlib.Omega.{arith}
-use lib.ListN.{length, take}
-use lib.Seq.{take-suc, take_all, length-take-le}
-use Rattle.text.specs.Text.{Put}
-use Rattle.text.proofs.Pieces.{put_nothing, then, retell, put_length}
+use lib.ListN.{take}
+use lib.Seq.{take-suc}
+use Rattle.text.proofs.Pieces.{then, retell}
 use Rattle.text.proofs.put_word.Goals as goal
 
 pub loop-i-preserved : goal.loop-i-preserved

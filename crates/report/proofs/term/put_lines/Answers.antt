@@ -1,0 +1,77 @@
+-- `report::term::put_lines` meets its contract. The loop's invariant: the lines for the counts 1 to k are put behind the first. Assumes nothing.
+use Prim.Native.Nat.{◌+◌, ◌-◌, ◌*◌, ◌≤◌}
+use mathlib.Core.Path.{◌≡◌, sym, ap, ap₂, ◌∙◌}
+use mathlib.Core.List.{◌++◌}
+use native.Mathlib.Omega.{arith}
+use lib.ListN.{length}
+use borrow.Author.Rules.{rules}
+use Rattle.engine.specs.Accepted.{Accepted}
+use Rattle.engine.proofs.Accepted.{costs_space}
+use Rattle.text.specs.Text.{Put}
+use Rattle.text.proofs.Pieces.{put_nothing, then, retell, put_length}
+use Rattle.report.specs.declared.line.Line.{Line}
+use Rattle.report.specs.Limits.{line_length}
+use Rattle.report.specs.Lines.{head_text}
+use Rattle.report.specs.Tables.{table_lines}
+use Rattle.report.proofs.Lengths.{head_length_lem}
+use Rattle.report.proofs.Tables.{answer_length, lines_none, lines_more}
+use Rattle.report.proofs.Solved as term
+use Rattle.report.proofs.term.put_lines.Goals as goal
+
+pub returns-then-r-ne0 : goal.returns-then-r-ne0
+returns-then-r-ne0 c =
+    let a = c.args in
+    retell
+    (term.refused_lines a.term.number a.term.asked a.body.now a.costs.now a.starts.now c.requires.0 c.requires.1
+    c.solve-r.result c.solve-r.ensures.value c.if-r-ne0.true)
+    c.put_head-next.ensures
+
+pub loop-k-init : goal.loop-k-init
+loop-k-init c = (omega arith, omega arith, retell (sym (lines_none _ _ _ _)) (put_nothing _ _))
+
+pub line_at-l-requires : goal.line_at-l-requires
+line_at-l-requires c =
+    let s = c.args in
+    let a = term.accepted s.term.number s.term.asked s.body.now s.costs.now s.starts.now c.requires.0 c.requires.1
+    c.solve-r.result c.solve-r.ensures.value c.if-r-ne0.false in
+    record {
+      row = c.loop-k-test.true;
+      few_rows = a.fit.segments.few_segments;
+      few_columns = a.fit.count.few_days;
+      space = omega (arith, costs_space a);
+    }
+
+pub put_line-next-requires : goal.put_line-next-requires
+put_line-next-requires c =
+    let s = c.args in
+    let a = term.accepted s.term.number s.term.asked s.body.now s.costs.now s.starts.now c.requires.0 c.requires.1
+    c.solve-r.result c.solve-r.ensures.value c.if-r-ne0.false in
+    let few = a.fit.segments.few_segments in
+    let d_is : c.line_at-l.result.d ≡ c.loop-k.k + 1 = ap (λ (x : Line). x.d) c.line_at-l.ensures in (
+      omega (arith, c.loop-k.invariant.1, c.put_head-next.ensures.end, head_length_lem s.term.number c.solve-r.result),
+      omega arith,
+      omega arith,
+      ap (λ (x : Line). length x.starts) c.line_at-l.ensures ∙ answer_length _ _ _,
+    )
+
+pub loop-k-preserved : goal.loop-k-preserved
+loop-k-preserved c =
+    let a = c.args in (
+      omega arith,
+      omega (arith, c.loop-k.invariant.1, c.put_line-next.ensures.upper_bound),
+      retell (lines_more a.term.asked a.body.now _ _ c.loop-k.k _ c.line_at-l.ensures) (then c.loop-k.invariant.2 c.put_line-next.ensures.put),
+    )
+
+pub returns : goal.returns
+returns c =
+    let a = c.args in
+    let asked = a.term.asked in
+    let body = a.body.now in
+    let all : c.loop-k.k ≡ asked.dmax = omega (arith, c.loop-k.invariant.0) in
+    let t = c.solve-r.ensures in
+    retell
+    (ap (head_text a.term.number c.solve-r.result ++◌)
+    (ap (table_lines asked body _ _) all ∙ ap₂ (λ x y. table_lines asked body x y asked.dmax) t.costs_after t.starts_after)
+    ∙ term.accepted_lines a.term.number asked body a.costs.now a.starts.now c.requires.0 c.requires.1
+    c.solve-r.result c.solve-r.ensures.value c.if-r-ne0.false)
+    (then c.put_head-next.ensures c.loop-k.invariant.2)
