@@ -1,11 +1,11 @@
 -- `engine::fill_from` meets its contract: what is read are the record's levels.
-use Rattle.std.proofs.Common.{◌≡◌, sym, ◌∙◌, List, ℕ, length, arith}
+use Rattle.std.proofs.Common.{◌≡◌, sym, ◌∙◌, length, arith}
 use Rattle.kernel.specs.declared.Named.TheVariants.{Known}
 use Rattle.kernel.specs.Kernel.{named_of}
 use Rattle.kernel.proofs.Number.{not_unknown}
 use Rattle.record.specs.Body.{observations}
 use Rattle.engine.specs.Levels.{levels_of}
-use Rattle.engine.proofs.Accepted.{all_whole, kernel_known, costs_space, starts_space}
+use Rattle.engine.proofs.Accepted.{all_whole, kernel_known}
 use Rattle.engine.proofs.Levels.{levels_are, levels_small}
 use Rattle.engine.proofs.Solved.{costs_filled, starts_filled}
 use Rattle.engine.proofs.fill_from.Goals as goal

@@ -2,7 +2,6 @@
 -- Assumes nothing.
 use mathlib.Core.Path.{◌∙◌}
 use lib.ListN.{length}
-use borrow.Author.Rules.{rules}
 use Rattle.reply.proofs.Answers.{answers, stop}
 use Rattle.reply.proofs.Exactly.{passed}
 use Rattle.record.specs.Body.{observations}

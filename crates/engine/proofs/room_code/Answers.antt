@@ -1,10 +1,8 @@
 -- `engine::room_code` meets its contract. Assumes nothing.
 use Prim.Native.Nat.{◌+◌, ◌*◌, ◌/◌, ◌≤◌, ◌<◌}
 use native.Mathlib.Omega.{arith}
-use borrow.Author.Rules.{rules}
 use Rattle.cutting.specs.Limits.{cost_bytes, start_bytes}
 use Rattle.reply.proofs.Answers.{answers}
-use Rattle.record.proofs.Accepted.{entries_few}
 use Rattle.engine.proofs.room_code.Goals as goal
 
 pub returns-then-costs-entries : goal.returns-then-costs-entries

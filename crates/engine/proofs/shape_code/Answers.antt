@@ -1,6 +1,5 @@
 -- `engine::shape_code` meets its contract: one list of tries after the other. Assumes nothing.
 use Prim.Native.Nat.{◌/◌}
-use borrow.Author.Rules.{rules}
 use Rattle.reply.proofs.Answers.{answers}
 use Rattle.reply.proofs.Exactly.{passed}
 use Rattle.record.specs.Limits.{observation_bytes}

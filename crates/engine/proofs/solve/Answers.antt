@@ -6,7 +6,6 @@ use Rattle.cutting.specs.Limits.{most_observations}
 use Rattle.reply.specs.declared.Reply.{Reply}
 use Rattle.reply.proofs.First.{if_done_lem, if_refused}
 use Rattle.record.specs.declared.Asked.{Asked}
-use Rattle.record.specs.Body.{observations}
 use Rattle.engine.specs.Solve.{solve_reply, costs_left, starts_left}
 use Rattle.engine.specs.Accepted.{Accepted}
 use Rattle.engine.proofs.Accepted.{accepted}

@@ -1,6 +1,5 @@
 -- `segment::date_at` meets its contract. Assumes nothing.
 use mathlib.Core.Path.{ap₂, ◌∙◌}
-use borrow.Author.Rules.{rules}
 use borrow.Author.Tests.{eq-eqb, ne_eqb, le-leb, lt-leb}
 use Rattle.segment.specs.Date.{midpoint_of, date_in}
 use Rattle.segment.proofs.date_at.Goals as goal

@@ -1,5 +1,4 @@
 -- `segment::judge_start` meets its contract: one list of tries after the other. Assumes nothing.
-use borrow.Author.Rules.{rules}
 use Rattle.reply.proofs.Answers.{answers, by_code}
 use Rattle.segment.specs.Date.{date_reply}
 use Rattle.segment.proofs.judge_start.Goals as goal

@@ -1,11 +1,9 @@
 -- `segment::rising_reply` meets its contract. The loop's invariant: what is left to try from i on gives the reply.
 -- Assumes nothing.
-use Prim.Native.Nat.{◌≤◌, ◌-◌}
-use mathlib.Core.Path.{refl, ◌∙◌}
+use mathlib.Core.Path.{◌∙◌}
 use native.Mathlib.Omega.{arith}
 use lib.ListN.{length}
-use borrow.Author.Rules.{rules}
-use Rattle.reply.proofs.Answers.{Left, last_holds, each_stop, each_clear, each_end}
+use Rattle.reply.proofs.Answers.{last_holds, each_stop, each_clear, each_end}
 use Rattle.record.specs.Tries.{day_try}
 use Rattle.segment.specs.Date.{day_of}
 use Rattle.segment.proofs.rising_reply.Goals as goal

@@ -1,7 +1,6 @@
 -- `segment::summarize` meets its contract. Assumes nothing.
 use mathlib.Core.Path.{sym, ap, ◌∙◌}
 use lib.Ieee.{of_bits}
-use borrow.Author.Rules.{rules}
 use Rattle.reply.specs.declared.Reply.{Reply}
 use Rattle.segment.proofs.Stretch.{accepted, summed, refused}
 use Rattle.segment.proofs.summarize.Goals as goal

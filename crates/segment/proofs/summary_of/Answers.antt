@@ -6,8 +6,7 @@ use mir.Syntax.{w64}
 use mir.Val.{SFits, to_z, of_z}
 use mir.ValLaws.{to_z-of_z}
 use borrow.Author.Tests.{eq-eqb, ne_eqb}
-use Rattle.record.specs.Body.{samples}
-use Rattle.segment.specs.Summary.{stretch_of, most_sum, sum_of, mean_of, summary_of}
+use Rattle.segment.specs.Summary.{most_sum, mean_of, summary_of}
 use Rattle.segment.proofs.Sum.{sum_small}
 use Rattle.segment.proofs.summary_of.Goals as goal
 

@@ -1,5 +1,5 @@
 -- `walk::walk_back` meets its contract: a walk goes by its step.
-use Rattle.std.proofs.Common.{ℕ, List, ◌+◌, ◌-◌, ◌≡◌, ap, ◌∙◌, arith}
+use Rattle.std.proofs.Common.{◌+◌, ◌-◌, ap, ◌∙◌, arith}
 use native.Mathlib.Nat.{mul-le-mul_right}
 use Rattle.walk.specs.declared.Walked.{Walked}
 use Rattle.walk.specs.Walk.{start_in, with_start}

@@ -1,5 +1,5 @@
 -- `walk::answer_within` meets its contract.
-use Rattle.std.proofs.Common.{ℕ, List, ◌-◌, ◌≡◌, sym, ◌∙◌, length, true, false, arith}
+use Rattle.std.proofs.Common.{ℕ, ◌-◌, ◌≡◌, sym, ◌∙◌, true, false, arith}
 use mathlib.Core.Path.{ap₂}
 use Rattle.kernel.specs.declared.Named.TheVariants.{Known}
 use Rattle.kernel.specs.Kernel.{named_of}

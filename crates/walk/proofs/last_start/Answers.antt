@@ -1,10 +1,5 @@
 -- `walk::last_start` meets its contract: the entry lies in the table, and the tests are the step's. Assumes nothing.
-use Prim.Native.Nat.{◌+◌, ◌-◌, ◌*◌, ◌≤◌, ◌<◌}
 use native.Mathlib.Omega.{arith}
-use borrow.Author.Rules.{rules}
-use Rattle.table.proofs.Fill.{cell_below}
-use Rattle.cutting.specs.Limits.{most_observations, most_segments}
-use Rattle.record.proofs.Accepted.{entries_few}
 use Rattle.walk.specs.Walk.{start_in}
 use Rattle.walk.proofs.Walk.{step_first, step_no_first, step_low, step_high, step_from}
 use Rattle.walk.proofs.last_start.Goals as goal

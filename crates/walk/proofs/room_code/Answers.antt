@@ -1,10 +1,8 @@
 -- `walk::room_code` meets its contract. Assumes nothing.
 use Prim.Native.Nat.{◌+◌, ◌*◌, ◌/◌, ◌≤◌, ◌<◌}
 use native.Mathlib.Omega.{arith}
-use borrow.Author.Rules.{rules}
 use Rattle.cutting.specs.Limits.{start_bytes}
 use Rattle.reply.proofs.Answers.{answers}
-use Rattle.record.proofs.Accepted.{entries_few}
 use Rattle.walk.specs.Answer.{answer_bytes}
 use Rattle.walk.proofs.room_code.Goals as goal
 

@@ -1,5 +1,4 @@
 -- `walk::shape_code` meets its contract: one list of tries after the other. Assumes nothing.
-use borrow.Author.Rules.{rules}
 use Rattle.reply.proofs.Answers.{answers}
 use Rattle.reply.proofs.Exactly.{passed}
 use Rattle.record.specs.Tries.{fit_tries}

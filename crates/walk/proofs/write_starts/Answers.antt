@@ -1,12 +1,12 @@
 -- `walk::write_starts` meets its contract. The loop's invariant: the first i entries of the row are written. Assumes nothing.
-use Prim.Native.Nat.{ℕ, ◌+◌, ◌-◌, ◌*◌, ◌≤◌}
-use mathlib.Core.Path.{◌≡◌, sym, ap, ◌∙◌}
+use Prim.Native.Nat.{ℕ, ◌+◌, ◌-◌, ◌*◌}
+use mathlib.Core.Path.{◌≡◌, sym, ◌∙◌}
 use mathlib.Core.List.{List}
 use native.Mathlib.Omega.{arith}
-use lib.ListN.{length, get_or}
+use lib.ListN.{get_or}
 use Rattle.cutting.specs.Limits.{most_segments, start_bytes}
-use Rattle.table.specs.Fill.{fill, write}
-use Rattle.table.proofs.Fill.{fill_none, fill_more, fill_length, column_none, column_more}
+use Rattle.table.specs.Fill.{write}
+use Rattle.table.proofs.Fill.{fill_none, fill_more, column_none, column_more}
 use Rattle.walk.proofs.write_starts.Invariants.{row}
 use Rattle.walk.proofs.write_starts.Goals as goal
 

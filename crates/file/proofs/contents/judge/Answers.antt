@@ -1,7 +1,6 @@
 -- `file::contents::judge` meets its contract. Assumes nothing.
 use Prim.Native.Nat.{◌≤◌, ◌<◌}
 use native.Mathlib.Omega.{arith}
-use borrow.Author.Rules.{rules}
 use Rattle.file.proofs.Judging.{judge_stop, judge_left, judge_done}
 use Rattle.file.proofs.contents.judge.Goals as goal
 

@@ -1,8 +1,6 @@
 -- `file::contents::judge_entries` meets its contract. The loop's invariant: what is left to try gives the reply. Assumes nothing.
-use Prim.Native.Nat.{◌-◌}
 use native.Mathlib.Omega.{arith}
-use borrow.Author.Rules.{rules}
-use Rattle.file.proofs.Judging.{place_near, Walking, walking_begun, walking_done, walking_stop, walking_room, walking_more}
+use Rattle.file.proofs.Judging.{walking_begun, walking_done, walking_stop, walking_room, walking_more}
 use Rattle.file.proofs.contents.judge_entries.Goals as goal
 
 pub loop-i-init : goal.loop-i-init

@@ -2,7 +2,6 @@
 use Prim.Native.Nat.{◌+◌, ◌≤◌, ◌<◌}
 use mathlib.Core.Path.{◌≡◌}
 use native.Mathlib.Omega.{arith}
-use borrow.Author.Rules.{rules}
 use Rattle.reply.proofs.Answers.{answers, by_code}
 use Rattle.file.specs.Layout.{size_of}
 use Rattle.file.proofs.contents.judge_entry.Goals as goal

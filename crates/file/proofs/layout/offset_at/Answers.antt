@@ -1,5 +1,4 @@
 -- `file::layout::offset_at` meets its contract. Assumes nothing.
-use borrow.Author.Rules.{rules}
 use Rattle.file.proofs.Codec.{field_none, offset_some}
 use Rattle.file.proofs.layout.offset_at.Goals as goal
 

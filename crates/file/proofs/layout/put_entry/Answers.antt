@@ -1,5 +1,4 @@
 -- `file::layout::put_entry` meets its contract. Assumes nothing.
-use borrow.Author.Rules.{rules}
 use Rattle.file.proofs.Codec.{entry_put}
 use Rattle.file.proofs.layout.put_entry.Goals as goal
 

@@ -1,5 +1,4 @@
 -- `file::layout::size_of` meets its contract. Assumes nothing.
-use borrow.Author.Rules.{rules}
 use Rattle.file.proofs.Codec.{size_is}
 use Rattle.file.proofs.layout.size_of.Goals as goal
 

@@ -1,6 +1,5 @@
 -- `file::reader::read_file` meets its contract. Assumes nothing.
-use borrow.Author.Rules.{rules}
-use Rattle.file.proofs.Replies.{read_long, read_none, read_listed, read_bad, read_short, read_judged}
+use Rattle.file.proofs.Replies.{read_long, read_none, read_bad, read_short, read_judged}
 use Rattle.file.proofs.reader.read_file.Goals as goal
 
 pub returns-then-file-gt-MOST_BYTES : goal.returns-then-file-gt-MOST_BYTES

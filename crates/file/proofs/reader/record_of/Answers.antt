@@ -1,6 +1,5 @@
 -- `file::reader::record_of` meets its contract. Assumes nothing.
 use native.Mathlib.Omega.{arith}
-use borrow.Author.Rules.{rules}
 use Rattle.file.proofs.Round.{found_listed, found}
 use Rattle.file.proofs.Accepted.{read_iff}
 use Rattle.file.proofs.reader.record_of.Goals as goal

@@ -1,7 +1,6 @@
 -- `file::writer::judge_room` meets its contract. Assumes nothing.
 use Prim.Native.Nat.{◌+◌, ◌≤◌, ◌<◌}
 use native.Mathlib.Omega.{arith}
-use borrow.Author.Rules.{rules}
 use Rattle.reply.proofs.Answers.{answers, by_code}
 use Rattle.file.specs.Limits.{most_bytes}
 use Rattle.file.proofs.writer.judge_room.Goals as goal

@@ -1,8 +1,5 @@
 -- `file::writer::judge_write` meets its contract. Assumes nothing.
-use native.Mathlib.Omega.{arith}
-use borrow.Author.Rules.{rules}
-use Rattle.file.proofs.Replies.{write_cut, write_listed, write_bad, write_stop, write_room}
-use Rattle.file.proofs.Judging.{few}
+use Rattle.file.proofs.Replies.{write_cut, write_bad, write_stop, write_room}
 use Rattle.file.proofs.writer.judge_write.Goals as goal
 
 pub returns-then-entries-ne0 : goal.returns-then-entries-ne0

@@ -1,8 +1,5 @@
 -- `file::writer::put_contents` meets its contract. The loop's invariant: what is still to be laid gives what is to be. Assumes nothing.
-use Prim.Native.Nat.{◌-◌}
-use native.Mathlib.Omega.{arith}
-use borrow.Author.Rules.{rules}
-use Rattle.file.proofs.Writing.{Putting, putting_begun, putting_done, putting_room, putting_more}
+use Rattle.file.proofs.Writing.{putting_done, putting_more}
 use Rattle.file.proofs.writer.put_contents.Goals as goal
 
 pub loop-i-preserved : goal.loop-i-preserved

@@ -1,6 +1,5 @@
 -- `file::writer::put_file` meets its contract. Assumes nothing.
 use native.Mathlib.Omega.{arith}
-use borrow.Author.Rules.{rules}
 use Rattle.file.proofs.Writing.{put_count, put_room, put_roomy, put_file_lem}
 use Rattle.file.proofs.Accepted.{write_iff}
 use Rattle.file.proofs.Replies.{write_listed}

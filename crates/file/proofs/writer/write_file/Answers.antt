@@ -1,6 +1,5 @@
 -- `file::writer::write_file` meets its contract. Assumes nothing.
 use mathlib.Core.Path.{sym, ◌∙◌}
-use borrow.Author.Rules.{rules}
 use Rattle.reply.proofs.Exactly.{code_of}
 use Rattle.reply.proofs.First.{if_done_lem, if_refused}
 use Rattle.file.proofs.writer.write_file.Goals as goal
