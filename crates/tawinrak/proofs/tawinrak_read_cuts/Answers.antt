@@ -1,5 +1,4 @@
 -- `tawinrak::tawinrak_read_cuts` meets its contract.
-use Rattle.std.proofs.Common.{◌≡◌}
 use Rattle.walk.specs.Answer.{answer_of}
 use Rattle.tawinrak.proofs.Fit.{packs_by, cuts_packs}
 use Rattle.tawinrak.proofs.tawinrak_read_cuts.Goals as goal

@@ -1,5 +1,4 @@
 -- `tawinrak::tawinrak_read_file` meets its contract. Assumes nothing.
-use borrow.Author.Rules.{rules}
 use Rattle.tawinrak.proofs.Fit.{packs_by, read_packs}
 use Rattle.tawinrak.proofs.tawinrak_read_file.Goals as goal
 

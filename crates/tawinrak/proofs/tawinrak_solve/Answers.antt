@@ -1,5 +1,4 @@
 -- `tawinrak::tawinrak_solve` meets its contract. Assumes nothing.
-use borrow.Author.Rules.{rules}
 use Rattle.tawinrak.proofs.Fit.{packs_by, solve_packs}
 use Rattle.tawinrak.proofs.tawinrak_solve.Goals as goal
 

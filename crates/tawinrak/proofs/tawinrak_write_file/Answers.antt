@@ -1,5 +1,4 @@
 -- `tawinrak::tawinrak_write_file` meets its contract. Assumes nothing.
-use borrow.Author.Rules.{rules}
 use Rattle.tawinrak.proofs.Fit.{packs_by, write_packs}
 use Rattle.tawinrak.proofs.tawinrak_write_file.Goals as goal
 

@@ -1,5 +1,4 @@
 -- `report::line::put_cut` meets its contract: one piece behind the other. Assumes nothing.
-use borrow.Author.Rules.{rules}
 use Rattle.text.proofs.Pieces.{then}
 use Rattle.report.proofs.line.put_cut.Goals as goal
 

@@ -1,13 +1,11 @@
 -- `report::line::put_cuts` meets its contract. The loop's invariant: the cuts of the segments 1 to i - 1 are put. Assumes nothing.
-use Prim.Native.Nat.{ℕ, ◌-◌, ◌≤◌}
-use mathlib.Core.Path.{◌≡◌, sym, ap, ◌∙◌}
+use Prim.Native.Nat.{ℕ}
+use mathlib.Core.Path.{ap, ◌∙◌}
 use mathlib.Core.List.{◌++◌}
 use native.Mathlib.Omega.{arith}
 use lib.ListN.{get_or}
-use lib.Seq.{slice, slice_empty}
-use borrow.Author.Rules.{rules}
-use Rattle.text.specs.Text.{Put}
-use Rattle.text.proofs.Pieces.{put_nothing, then, retell, put_length}
+use lib.Seq.{slice}
+use Rattle.text.proofs.Pieces.{then, retell}
 use Rattle.report.specs.Lines.{pair_text, cuts_text}
 use Rattle.report.proofs.Lengths.{cuts_end}
 use Rattle.report.proofs.Pieces.{cuts_more}

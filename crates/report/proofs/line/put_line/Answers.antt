@@ -1,6 +1,4 @@
 -- `report::line::put_line` meets its contract: one piece behind the other. Assumes nothing.
-use native.Mathlib.Omega.{arith}
-use borrow.Author.Rules.{rules}
 use Rattle.text.proofs.Pieces.{then}
 use Rattle.report.proofs.line.put_line.Goals as goal
 

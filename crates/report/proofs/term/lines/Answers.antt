@@ -4,7 +4,6 @@ use mathlib.Core.Path.{ap, ◌∙◌}
 use mathlib.Core.List.{List}
 use native.Mathlib.Omega.{arith}
 use lib.ListN.{length}
-use borrow.Author.Rules.{rules}
 use Rattle.text.proofs.Pieces.{front, put_length}
 use Rattle.report.specs.Written.{written_of, out_left}
 use Rattle.report.proofs.Solved.{lines_length_lem}

@@ -1,16 +1,12 @@
 -- `report::term::put_lines` meets its contract. The loop's invariant: the lines for the counts 1 to k are put behind the first. Assumes nothing.
-use Prim.Native.Nat.{◌+◌, ◌-◌, ◌*◌, ◌≤◌}
+use Prim.Native.Nat.{◌+◌}
 use mathlib.Core.Path.{◌≡◌, sym, ap, ap₂, ◌∙◌}
 use mathlib.Core.List.{◌++◌}
 use native.Mathlib.Omega.{arith}
 use lib.ListN.{length}
-use borrow.Author.Rules.{rules}
-use Rattle.engine.specs.Accepted.{Accepted}
 use Rattle.engine.proofs.Accepted.{costs_space}
-use Rattle.text.specs.Text.{Put}
-use Rattle.text.proofs.Pieces.{put_nothing, then, retell, put_length}
+use Rattle.text.proofs.Pieces.{put_nothing, then, retell}
 use Rattle.report.specs.declared.line.Line.{Line}
-use Rattle.report.specs.Limits.{line_length}
 use Rattle.report.specs.Lines.{head_text}
 use Rattle.report.specs.Tables.{table_lines}
 use Rattle.report.proofs.Lengths.{head_length_lem}

@@ -1,8 +1,5 @@
 -- `report::written::hand_over` meets its contract. Assumes nothing.
-use mathlib.Core.Path.{sym}
-use native.Mathlib.Omega.{arith}
-use borrow.Author.Rules.{rules}
-use Rattle.report.proofs.Buffer.{long, too_short, room_enough}
+use Rattle.report.proofs.Buffer.{too_short, room_enough}
 use Rattle.report.proofs.written.hand_over.Goals as goal
 
 pub returns-then-out-len-clause-value : goal.returns-then-out-len-clause-value
