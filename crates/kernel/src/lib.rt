@@ -26,6 +26,7 @@ pub enum Named {
 }
 
 // The kernel of a number: 1, 2 or 3, and none of any other.
+#[tactic(auto, using(crate::proofs::Number::known, crate::proofs::Number::unknown), unfolding(crate::specs::Kernel::named_of))]
 pub fn kernel_of(number: u64) -> Named
     ensures { result ≡ named_of number }
 {

@@ -60,6 +60,7 @@ fn line_at(asked: Asked, body: &[u8], costs: &[u8], starts: &[u8], k: usize) -> 
 }
 
 // All lines of a term, with tables lent for its solve.
+#[tactic(auto, using(crate::proofs::Solved::refused_lines, text::proofs::Pieces::retell))]
 fn put_lines(out: &mut [u8], term: Term, body: &[u8], costs: &mut [u8], starts: &mut [u8]) -> usize
     requires { (length costs.old ≡ cost_room) × (length starts.old ≡ start_room) }
     ensures { Put out.old 0 (lines_of term.number term.asked body.now) out.new result }

@@ -32,6 +32,7 @@ pub fn put_word(out: &mut [u8], at: usize, s: &[u8]) -> usize
 }
 
 // The decimal digits of n, at most f of them.
+#[tactic(auto, using(crate::proofs::Pieces::one_digit))]
 fn put_digits(out: &mut [u8], at: usize, n: u64, f: usize) -> usize
     requires { (1 ≤ f) × (f ≤ 20) × (n < 10 ^ f) × (at + f < 2 ^ 32) }
     ensures { Put out.old at (digits f n) out.new result }

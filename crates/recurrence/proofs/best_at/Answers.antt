@@ -2,19 +2,13 @@
 use Rattle.std.proofs.Common.{◌-◌, arith}
 use Rattle.table.proofs.Fill.{cell_below}
 use Rattle.cutting.specs.Limits.{least_length}
-use Rattle.cutting.proofs.Table.{from_none, from_one, from_more}
+use Rattle.cutting.proofs.Table.{from_none, from_more}
 use Rattle.recurrence.proofs.best_at.Goals as goal
 
 pub returns-then-t-d : goal.returns-then-t-d
 returns-then-t-d c = record {
   cost_value = (from_none _ least_length _ _ _ (omega arith)).0;
   start_value = (from_none _ least_length _ _ _ (omega arith)).1;
-}
-
-pub returns-then-d-eq0 : goal.returns-then-d-eq0
-returns-then-d-eq0 c = record {
-  cost_value = (from_one _ least_length _ _ _ (omega arith) (omega arith)).0;
-  start_value = (from_one _ least_length _ _ _ (omega arith) (omega arith)).1;
 }
 
 pub least-requires : goal.least-requires

@@ -14,14 +14,6 @@ use Rattle.report.proofs.Tables.{answer_length, lines_none, lines_more}
 use Rattle.report.proofs.Solved as term
 use Rattle.report.proofs.term.put_lines.Goals as goal
 
-pub returns-then-r-ne0 : goal.returns-then-r-ne0
-returns-then-r-ne0 c =
-    let a = c.args in
-    retell
-    (term.refused_lines a.term.number a.term.asked a.body.now a.costs.now a.starts.now c.requires.0 c.requires.1
-    c.solve-r.result c.solve-r.ensures.value c.if-r-ne0.true)
-    c.put_head-next.ensures
-
 pub loop-k-init : goal.loop-k-init
 loop-k-init c = (omega arith, omega arith, retell (sym (lines_none _ _ _ _)) (put_nothing _ _))
 
@@ -29,7 +21,7 @@ pub line_at-l-requires : goal.line_at-l-requires
 line_at-l-requires c =
     let s = c.args in
     let a = term.accepted s.term.number s.term.asked s.body.now s.costs.now s.starts.now c.requires.0 c.requires.1
-    c.solve-r.result c.solve-r.ensures.value c.if-r-ne0.false in
+    c.solve-r.result c.solve-r.ensures.value (omega arith) in
     record {
       row = c.loop-k-test.true;
       few_rows = a.fit.segments.few_segments;
@@ -41,7 +33,7 @@ pub put_line-next-requires : goal.put_line-next-requires
 put_line-next-requires c =
     let s = c.args in
     let a = term.accepted s.term.number s.term.asked s.body.now s.costs.now s.starts.now c.requires.0 c.requires.1
-    c.solve-r.result c.solve-r.ensures.value c.if-r-ne0.false in
+    c.solve-r.result c.solve-r.ensures.value (omega arith) in
     let few = a.fit.segments.few_segments in
     let d_is : c.line_at-l.result.d ≡ c.loop-k.k + 1 = ap (λ (x : Line). x.d) c.line_at-l.ensures in (
       omega (arith, c.loop-k.invariant.1, c.put_head-next.ensures.end, head_length_lem s.term.number c.solve-r.result),
@@ -69,5 +61,5 @@ returns c =
     (ap (head_text a.term.number c.solve-r.result ++◌)
     (ap (table_lines asked body _ _) all ∙ ap₂ (λ x y. table_lines asked body x y asked.dmax) t.costs_after t.starts_after)
     ∙ term.accepted_lines a.term.number asked body a.costs.now a.starts.now c.requires.0 c.requires.1
-    c.solve-r.result c.solve-r.ensures.value c.if-r-ne0.false)
+    c.solve-r.result c.solve-r.ensures.value (omega arith))
     (then c.put_head-next.ensures c.loop-k.invariant.2)
