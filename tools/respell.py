@@ -1,16 +1,19 @@
 #!/usr/bin/env python3
-"""Brings the names that this repository declares in specs/ and proofs/ to one spelling: words in snake case, types and
-modules in camel case. It runs once, at the top, on what /opt/rattle/port/port.py left, and a second run changes nothing.
+"""Brought the names that this repository declares in specs/ and proofs/ to one spelling: words in snake case, types and
+modules in camel case. It ran once, on what /opt/rattle/port/port.py left of an older tree: docs/PORT.md names the commit.
+It does not run on what stands on that, whose goals have dashes of their own.
 
 usage: respell.py [--check]
 
 A name with a small first letter turns: `mostObservations` to `most_observations`, `below-cost` to `below_cost`. A dash
-beside an operator stays, as in `⊖-add`. A lemma that would meet a definition, as `level-of` and `levelOf`, gets `_lem`. Functions of src/, types, modules, goals that the check names and what a file
-imports from a library keep their names, and so do the rules' own capitals, as `R` and `A`. --check lists the names that
-would fall together in a file, and writes nothing.
+beside an operator stays, as in `⊖-add`. A lemma that would meet a definition, as `level-of` and `levelOf`, gets `_lem`.
+Functions of src/, types, modules, goals that the check names and what a file imports from a library keep their names,
+and so do the rules' own capitals, as `R` and `A`. --check lists the names that would fall together in a file, and
+writes nothing.
 """
 import collections
 import glob
+import os
 import re
 import sys
 
@@ -138,6 +141,8 @@ def together(names):
 
 
 def main():
+    if os.path.exists("docs/PORT.md"):
+        sys.exit("respell.py: this tree is respelled: docs/PORT.md")
     names = declared()
     if "--check" in sys.argv:
         print(len(names), "names;", together(names), "meet another in a file")

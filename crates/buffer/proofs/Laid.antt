@@ -46,6 +46,6 @@ module _ (o : List ℕ) (n : ℕ) (s : List ℕ) (fits : n + length s ≤ length
   pub after_laid : drop (n + length s) (laid o n s) ≡ drop (n + length s) o
   after_laid = sym (drop-drop (length s) n (laid o n s)) ∙ ap (drop (length s)) from_laid ∙ drop_at s _ (length s) refl
 
--- What comes back from a copy of s into the part of o from n to its end there.
+-- What comes back from a copy of s into the part of o that begins at n and is as long as s.
 pub copied : (o s : List ℕ) (n : ℕ) → n + length s ≤ length o → put_mid n (n + length s - n) o s ≡ laid o n s
 copied o s n h = rw (Post-is n (n + length s) o (omega arith)) (sym (laid_is o n s h))

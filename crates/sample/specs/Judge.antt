@@ -1,5 +1,5 @@
 -- What a sample is judged to be: the whole number x that it stands for, or why there is none.
--- A finite share `fin s m e` is the number m * 2 ^ e, negative where s is true (`lib.Ieee`); 2 ^ e is the fraction up e / down e.
+-- A finite share `fin s m e` is the number m * 2 ^ e, negative where s is true (`Rattle.std.specs.Float`); 2 ^ e is the fraction up e / down e.
 -- No floating operation is used.
 use Rattle.std.specs.Prelude.{ℕ, ◌*◌, ◌/◌, ◌%◌, ◌≤◌, ◌<◌, ◌≡◌, Bool, cond, ltb, leb, eqb, ℤ, pos, neg_ℤ, nat_abs, Float}
 use Rattle.std.specs.Float.{nan, inf, fin}

@@ -1,4 +1,4 @@
--- `read_full` ends, since each turn leaves less to fill.
+-- `cuts::read_full` ends, since each turn leaves less to fill.
 use Rattle.std.proofs.Common.{length, ◌-◌, ◌≡◌, ◌<◌, ◌≤◌, ◌^◌}
 use Rattle.cuts.proofs.read_full.Given as goal
 

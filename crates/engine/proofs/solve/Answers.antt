@@ -29,7 +29,7 @@ returns-then-r-ne0 c =
     let a = c.args in
     let e = c.judge-r.ensures in
     let no = λ (z : (solve_reply a.asked a.body.now (length a.costs.now) (length a.starts.now)).code ≡ 0). c.if-r-ne0.true (sym (code_is _ _ _ _ _ e) ∙ z) in record {
-      value = e;
+      reply = e;
       costs_after = sym (if_refused _ _ _ no);
       starts_after = sym (if_refused _ _ _ no);
     }
@@ -50,7 +50,7 @@ unfolding costs_left starts_left
 returns c =
     let e = c.judge-r.ensures in
     let done = code_is _ _ _ _ _ e ∙ c.if-r-ne0.false in record {
-      value = e;
+      reply = e;
       costs_after = c.fill_from.ensures.costs_after ∙ sym (if_done_lem _ _ _ done);
       starts_after = c.fill_from.ensures.starts_after ∙ sym (if_done_lem _ _ _ done);
     }

@@ -1,4 +1,4 @@
--- `kernel::units` meets its contract: `units_split` says what the sum is, and with it each product fits. Assumes nothing.
+-- `kernel::units` meets its contract: `units_split` says what the sum is. Assumes nothing.
 use Rattle.kernel.proofs.Rounding.{units_split}
 use Rattle.kernel.proofs.units.Goals as goal
 

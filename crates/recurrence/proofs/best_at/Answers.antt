@@ -1,4 +1,4 @@
--- `recurrence::best_at` meets its contract: the three kinds of entry.
+-- `recurrence::best_at` meets its contract: the marks where no cutting is, and the least of several starts. One segment alone is `from_one`.
 use Rattle.std.proofs.Common.{◌-◌, arith}
 use Rattle.table.proofs.Fill.{cell_below}
 use Rattle.cutting.specs.Limits.{least_length}

@@ -1,4 +1,4 @@
--- `sample::judge_count` meets its contract: its two tests are the one of the count's size. MIR reads n back from its bits, which gives n again, since n fits.
+-- `sample::judge_count` meets its contract: its two tests are the one of the count's size. n is read back from its 64 bits, which gives n again, since n fits.
 use Rattle.std.proofs.Common.{◌≡◌, refl, ap, sym, ◌∙◌, Bool, true, false, ◌&&◌, ℤ, pos, negsuc}
 use lib.Dec.{leb, leb-suc-suc}
 use lib.IntN.{nat_abs}

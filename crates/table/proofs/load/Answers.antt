@@ -13,11 +13,11 @@ loop-i-init c = (omega arith, sym (num_none _ _ _ (omega arith)))
 
 pub overflow_mul-v : goal.overflow_mul-v
 overflow_mul-v c =
-    omega (arith, small c.args.t.now c.args.at c.args.k c.loop-i.i c.loop-i.v (λ j. (c.type_inv.t j).fits) (omega arith) c.requires.k_bound c.loop-i.invariant.1)
+    omega (arith, small c.args.t.now c.args.at c.args.k c.loop-i.i c.loop-i.v (λ j. (c.type_inv.t j).fits) (omega arith) c.requires.width c.loop-i.invariant.1)
 
 pub overflow_add-v : goal.overflow_add-v
 overflow_add-v c =
-    omega (arith, small c.args.t.now c.args.at c.args.k c.loop-i.i c.loop-i.v (λ j. (c.type_inv.t j).fits) (omega arith) c.requires.k_bound c.loop-i.invariant.1)
+    omega (arith, small c.args.t.now c.args.at c.args.k c.loop-i.i c.loop-i.v (λ j. (c.type_inv.t j).fits) (omega arith) c.requires.width c.loop-i.invariant.1)
 
 pub loop-i-preserved : goal.loop-i-preserved
 loop-i-preserved c =

@@ -5,8 +5,8 @@ use Rattle.tawinrak.proofs.tawinrak_read_cuts.Goals as goal
 
 pub packed-requires : goal.packed-requires
 unfolding answer_of
-packed-requires c = packs_by _ _ c.read_cuts_to-r.ensures.value (cuts_packs _ _ _)
+packed-requires c = packs_by _ _ c.read_cuts_to-r.ensures.reply (cuts_packs _ _ _)
 
 pub returns-clause-reply : goal.returns-clause-reply
 unfolding answer_of
-returns-clause-reply c = rw c.read_cuts_to-r.ensures.value at c.packed.ensures
+returns-clause-reply c = rw c.read_cuts_to-r.ensures.reply at c.packed.ensures

@@ -21,7 +21,7 @@ pub line_at-l-requires : goal.line_at-l-requires
 line_at-l-requires c =
     let s = c.args in
     let a = term.accepted s.term.number s.term.asked s.body.now s.costs.now s.starts.now c.requires.0 c.requires.1
-    c.solve-r.result c.solve-r.ensures.value (omega arith) in
+    c.solve-r.result c.solve-r.ensures.reply (omega arith) in
     record {
       row = c.loop-k-test.true;
       few_rows = a.fit.segments.few_segments;
@@ -33,7 +33,7 @@ pub put_line-next-requires : goal.put_line-next-requires
 put_line-next-requires c =
     let s = c.args in
     let a = term.accepted s.term.number s.term.asked s.body.now s.costs.now s.starts.now c.requires.0 c.requires.1
-    c.solve-r.result c.solve-r.ensures.value (omega arith) in
+    c.solve-r.result c.solve-r.ensures.reply (omega arith) in
     let few = a.fit.segments.few_segments in
     let d_is : c.line_at-l.result.d ≡ c.loop-k.k + 1 = ap (λ (x : Line). x.d) c.line_at-l.ensures in (
       omega (arith, c.loop-k.invariant.1, c.put_head-next.ensures.end, head_length_lem s.term.number c.solve-r.result),
@@ -61,5 +61,5 @@ returns c =
     (ap (head_text a.term.number c.solve-r.result ++◌)
     (ap (table_lines asked body _ _) all ∙ ap₂ (λ x y. table_lines asked body x y asked.dmax) t.costs_after t.starts_after)
     ∙ term.accepted_lines a.term.number asked body a.costs.now a.starts.now c.requires.0 c.requires.1
-    c.solve-r.result c.solve-r.ensures.value (omega arith))
+    c.solve-r.result c.solve-r.ensures.reply (omega arith))
     (then c.put_head-next.ensures c.loop-k.invariant.2)
