@@ -7,7 +7,7 @@ use Rattle.record.proofs.day_at.Goals as goal
 
 pub overflow_cast-result : goal.overflow_cast-result
 overflow_cast-result c =
-    let small = num_lt 4 c.args.body.now (12 * c.args.at.0) (λ j. (c.shared_slice_known-1.given j).fits) in
+    let small = num_lt 4 c.args.body.now (12 * c.args.at.0) (λ j. (c.type_inv.body j).fits) in
     omega (arith, small, c.load.ensures)
 
 pub returns : goal.returns

@@ -1,4 +1,4 @@
--- `sample::judge_share` meets its contract. What each test tells of x, the product, is in `proofs/Product.antt`, with each number written `fin s m e`; The code's numbers stand by their bit patterns.
+-- `sample::judge_share` meets its contract. What each test tells of x, the product, is in `proofs/Product.antt`, with each number written `fin s m e`; the code's numbers stand by their bit patterns.
 use Rattle.std.proofs.Common.{◌≡◌, sym, ap, ◌∙◌, subst, true, false}
 use lib.Dec.{T}
 use lib.Ieee.{Float, binary64, mul, sub, ne, neg, of_bits, to_signed, fits}

@@ -18,13 +18,13 @@ pub overflow_sub-i : goal.overflow_sub-i
 overflow_sub-i c = (taken _ _ _ c.judge_start-reply.ensures c.if-reply-ne0.false).later
 
 pub offset_bounds-days-i : goal.offset_bounds-days-i
-offset_bounds-days-i c = omega (arith, (taken _ _ _ c.judge_start-reply.ensures c.if-reply-ne0.false).below, (taken _ _ _ c.judge_start-reply.ensures c.if-reply-ne0.false).count.few_days)
+offset_bounds-days-i c = let at = taken _ _ _ c.judge_start-reply.ensures c.if-reply-ne0.false in omega (arith, at.below, at.count.few_days)
 
 pub bounds-days-i : goal.bounds-days-i
 bounds-days-i c = omega (arith, (taken _ _ _ c.judge_start-reply.ensures c.if-reply-ne0.false).below)
 
 pub offset_bounds-days-i-2 : goal.offset_bounds-days-i-2
-offset_bounds-days-i-2 c = omega (arith, (taken _ _ _ c.judge_start-reply.ensures c.if-reply-ne0.false).below, (taken _ _ _ c.judge_start-reply.ensures c.if-reply-ne0.false).count.few_days)
+offset_bounds-days-i-2 c = let at = taken _ _ _ c.judge_start-reply.ensures c.if-reply-ne0.false in omega (arith, at.below, at.count.few_days)
 
 pub bounds-days-i-2 : goal.bounds-days-i-2
 bounds-days-i-2 c = (taken _ _ _ c.judge_start-reply.ensures c.if-reply-ne0.false).below

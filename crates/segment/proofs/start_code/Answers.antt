@@ -1,4 +1,5 @@
 -- `segment::start_code` meets its contract. Assumes nothing.
+use Rattle.std.proofs.Common.{◌≤◌, ◌<◌, arith}
 use Rattle.reply.proofs.Answers.{answers}
 use Rattle.segment.proofs.start_code.Goals as goal
 
@@ -6,7 +7,7 @@ pub returns-then-i-eq0 : goal.returns-then-i-eq0
 returns-then-i-eq0 c = search answers
 
 pub returns-then-n-i : goal.returns-then-n-i
-returns-then-n-i c = search answers
+returns-then-n-i c = let past : c.args.n ≤ c.args.at.0 = omega arith in search answers
 
 pub returns : goal.returns
-returns c = search answers
+returns c = let within : c.args.at.0 < c.args.n = omega arith in search answers

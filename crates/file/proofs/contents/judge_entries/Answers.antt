@@ -15,7 +15,7 @@ pub overflow_add-due-in-loop-i : goal.overflow_add-due-in-loop-i
 overflow_add-due-in-loop-i c =
     let room = walking_room _ _ _ _ c.loop-i.invariant c.loop-i-test.true _ _ _
     c.entry_in-e.ensures.0 c.offset_in-offset.ensures c.judge_entry-r.ensures c.if-r-ne0.false in
-    omega (arith, c.struct_known-1.given)
+    omega arith
 
 pub loop-i-preserved : goal.loop-i-preserved
 loop-i-preserved c =

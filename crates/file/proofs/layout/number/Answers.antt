@@ -8,5 +8,5 @@ use Rattle.file.proofs.layout.number.Goals as goal
 pub returns : goal.returns
 returns c =
     let s = c.args in
-    let small : num s.k s.s.now s.at < 256 ^ s.k = num_lt s.k s.s.now s.at (λ j. (c.shared_slice_known-1.given j).fits) in
+    let small : num s.k s.s.now s.at < 256 ^ s.k = num_lt s.k s.s.now s.at (λ j. (c.type_inv.s j).fits) in
     search rules
