@@ -1,4 +1,5 @@
 -- A record is accepted exactly where it is `Accepted`, and 12 is never given. Assumes nothing.
+use Rattle.std.specs.Prelude.{Some}
 use Prim.Native.Nat.{ℕ, ◌+◌, ◌*◌, ◌≤◌}
 use mathlib.Core.Path.{◌≡◌, ap, ◌∙◌}
 use mathlib.Core.Bool.{false, cond}
@@ -10,7 +11,6 @@ use lib.ListN.{length}
 use borrow.Author.Tests.{le-ltb}
 use Rattle.cutting.specs.Limits.{cost_bytes, start_bytes}
 use Rattle.kernel.specs.declared.Kernel.{Kernel}
-use Rattle.kernel.specs.declared.Named.TheVariants.{Known}
 use Rattle.kernel.specs.Kernel.{named_of}
 use Rattle.kernel.proofs.Number.{known_number}
 use Rattle.reply.specs.declared.Reply.{Reply}
@@ -87,7 +87,7 @@ module _ {asked : Asked} {body : List ℕ} {costs starts : ℕ} (a : Accepted as
   pub all_whole : AllWhole asked body
   all_whole = sampled_whole asked body a.whole
 
-  pub kernel_known : (k : Kernel) × (named_of asked.kernel ≡ Known k)
+  pub kernel_known : (k : Kernel) × (named_of asked.kernel ≡ Some k)
   kernel_known = known_number asked.kernel a.fit.kernel.some_kernel a.fit.kernel.known_kernel
 
   -- room for the tables, in bytes

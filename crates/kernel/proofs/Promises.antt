@@ -1,6 +1,7 @@
 -- The promises about kernels and segment costs, in the words of the scope's "Kernels and segment cost". Each is said
 -- once over the kernel.
 -- Assumes nothing.
+use Rattle.std.specs.Prelude.{Some}
 use mathlib.Core.Path.{◌≡◌, refl, ap, ◌∙◌}
 use mathlib.Core.Logic.{◌↔◌}
 use mathlib.Core.Bool.{false}
@@ -13,7 +14,6 @@ use Rattle.cutting.specs.Cutting as cutting
 use Rattle.cutting.proofs.Promises as cuttings
 use Rattle.kernel.specs.declared.Kernel.{Kernel}
 use Rattle.kernel.specs.declared.Kernel.TheVariants.{Linear, Spelling, Energy}
-use Rattle.kernel.specs.declared.Named.TheVariants.{Known}
 use Rattle.kernel.proofs.Pairs as Pairs
 use Rattle.kernel.proofs.Segment as Segment
 use Rattle.kernel.proofs.Number as Number
@@ -40,10 +40,10 @@ use Rattle.kernel.proofs.Sums.{every, weaken}
 
 -- ---- the kernels
 -- The kernel of a number: that number names it, and no other does.
-pub named_number : (k : Kernel) → named_of (number_of k) ≡ Known k
+pub named_number : (k : Kernel) → named_of (number_of k) ≡ Some k
 named_number = Number.named_number
 
-pub number_named : (n : ℕ) (k : Kernel) → named_of n ≡ Known k → n ≡ number_of k
+pub number_named : (n : ℕ) (k : Kernel) → named_of n ≡ Some k → n ≡ number_of k
 number_named = Number.number_named
 
 -- "This is the smaller magnitude where signs agree, and 0 where they differ or one is 0."

@@ -1,11 +1,9 @@
 -- The three kernels, their numbers, and the distance that each gives two samples.
 -- A sample is a whole number. Assumes nothing.
-use Rattle.std.specs.Prelude.{◌≡◌, Bool, true, false, cond, ◌↔◌, ℕ, ◌+◌, ◌*◌, ◌-◌, ◌/◌, ◌<◌, eqb, length, get_or, ℤ, pos, negsuc, nat_abs, ◌+ℤ◌, ◌-ℤ◌, ◌*ℤ◌}
+use Rattle.std.specs.Prelude.{◌≡◌, Bool, true, false, cond, ◌↔◌, ℕ, ◌+◌, ◌*◌, ◌-◌, ◌/◌, ◌<◌, eqb, length, get_or, ℤ, pos, negsuc, nat_abs, ◌+ℤ◌, ◌-ℤ◌, ◌*ℤ◌, Option, Some, None}
 use mathlib.Core.List.{List, Memᴰ}
 use Rattle.kernel.specs.declared.Kernel.{Kernel}
 use Rattle.kernel.specs.declared.Kernel.TheVariants.{Linear, Spelling, Energy}
-use Rattle.kernel.specs.declared.Named.{Named}
-use Rattle.kernel.specs.declared.Named.TheVariants.{Unknown, Known}
 
 -- whether two whole numbers are equal
 abbrev pub eq_z : ℤ → ℤ → Bool
@@ -43,8 +41,8 @@ number_of Linear = 1
 number_of Spelling = 2
 number_of Energy = 3
 
-unfoldable pub named_of : ℕ → Named
-named_of n = cond (eqb n 1) (Known Linear) (cond (eqb n 2) (Known Spelling) (cond (eqb n 3) (Known Energy) Unknown))
+unfoldable pub named_of : ℕ → Option Kernel
+named_of n = cond (eqb n 1) (Some Linear) (cond (eqb n 2) (Some Spelling) (cond (eqb n 3) (Some Energy) None))
 
 -- the gap |x - y| of two samples, and of two natural numbers
 abbrev pub gap : ℤ → ℤ → ℕ

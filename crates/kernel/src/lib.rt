@@ -2,51 +2,41 @@
 
 #![tactic(auto)]
 
-ghost use Rattle.std.specs.Prelude.{◌≡◌, ◌^◌, ◌≤◌, ◌<◌};
+ghost use Rattle.std.specs.Prelude.{◌≡◌, ◌^◌, ◌≤◌, ◌<◌, ok_or};
+ghost use Rattle.reply.specs.declared.Reason.TheVariants.{UnknownKernel};
 ghost use Rattle.cutting.specs.Limits.{most_observations};
 ghost use Rattle.sample.specs.Level.{largest_level};
 ghost use Rattle.kernel.specs.Kernel.{dist, far, named_of};
 ghost use Rattle.kernel.specs.Cost.{units_of};
 
+use reply::Reason;
+
 // So many units are one of R/m.
 const UNITS: u64 = 4096;
 
-#[derive(Clone, Copy)]
+// The three kernels, each with its number.
+#[derive(Clone, Copy, Debug, PartialEq, Eq)]
 pub enum Kernel {
-    Linear,
-    Spelling,
-    Energy,
+    Linear = 1,
+    Spelling = 2,
+    Energy = 3,
 }
 
-// What a kernel's number names.
-#[derive(Clone, Copy)]
-pub enum Named {
-    Unknown,
-    Known(Kernel),
-}
+// The kernel of a number; any other number than the three is 6.
+impl TryFrom<u64> for Kernel {
+    type Error = Reason;
 
-// The kernel of a number: 1, 2 or 3, and none of any other.
-#[tactic(auto, using(crate::proofs::Number::known, crate::proofs::Number::unknown), unfolding(crate::specs::Kernel::named_of))]
-pub fn kernel_of(number: u64) -> Named
-    ensures { result ≡ named_of number }
-{
-    if number == 1 {
-        return Named::Known(Kernel::Linear);
-    }
-    if number == 2 {
-        return Named::Known(Kernel::Spelling);
-    }
-    if number == 3 {
-        return Named::Known(Kernel::Energy);
-    }
-    Named::Unknown
-}
+    ghost try_from_gives = { λ n r. r ≡ ok_or (named_of n) UnknownKernel };
 
-// How far two numbers lie apart.
-fn apart(u: u64, v: u64) -> u64
-    ensures { result ≡ far u v }
-{
-    if u < v { v - u } else { u - v }
+    #[tactic(auto, using(crate::proofs::Number::known, crate::proofs::Number::unknown), unfolding(crate::specs::Kernel::named_of))]
+    fn try_from(number: u64) -> Result<Kernel, Reason> {
+        match number {
+            1 => Ok(Kernel::Linear),
+            2 => Ok(Kernel::Spelling),
+            3 => Ok(Kernel::Energy),
+            _ => Err(Reason::UnknownKernel),
+        }
+    }
 }
 
 // The distance of two samples, each given by its level.
@@ -56,11 +46,11 @@ pub fn distance(k: Kernel, u: u64, v: u64) -> u64
 {
     match k {
         Kernel::Linear => {
-            let g = apart(u, v);
+            let g = u.abs_diff(v);
             g * g
         }
         Kernel::Spelling => { if u == v { 0 } else { 2 } }
-        Kernel::Energy => apart(u, v),
+        Kernel::Energy => u.abs_diff(v),
     }
 }
 

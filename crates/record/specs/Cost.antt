@@ -1,19 +1,18 @@
 -- What a record's segments cost, and its least cost and chosen cutting for each number of segments.
-use Rattle.std.specs.Prelude.{ℕ, List, ℤ}
+use Rattle.kernel.specs.declared.Kernel.{Kernel}
+use Rattle.std.specs.Prelude.{ℕ, List, ℤ, Option, Some, None}
 use Rattle.cutting.specs.Limits.{least_length}
 use Rattle.cutting.specs.Cutting.{Cutting, Choice}
 use Rattle.cutting.specs.Recurrence.{least_in, chosen_in}
-use Rattle.kernel.specs.declared.Named.{Named}
-use Rattle.kernel.specs.declared.Named.TheVariants.{Unknown, Known}
 use Rattle.kernel.specs.Kernel.{kernel, named_of}
 use Rattle.kernel.specs.Cost.{cost}
 use Rattle.record.specs.declared.Asked.{Asked}
 use Rattle.record.specs.Body.{samples}
 
 -- the segment cost of samples: the cost in units of those from s to t - 1 under the kernel of a number
-abbrev pub cost_under : Named → List ℤ → ℕ → ℕ → ℕ
-cost_under Unknown xs s t = 0
-cost_under (Known k) xs s t = cost (kernel k) xs s t
+abbrev pub cost_under : Option Kernel → List ℤ → ℕ → ℕ → ℕ
+cost_under None xs s t = 0
+cost_under (Some k) xs s t = cost (kernel k) xs s t
 
 -- the segment cost of a record
 abbrev pub cost_of : Asked → List ℕ → ℕ → ℕ → ℕ

@@ -1,5 +1,6 @@
 -- A share's judgement, read off the product x = 65,536 v by the tests that `judge_share` makes. `product_judged` is the claim that the product loses nothing that matters:
 -- where it is finite it is exact, and where it overflows the share is out of range.
+use Rattle.std.specs.Prelude.{Ok, Err}
 use mathlib.Core.Path.{◌≡◌, refl, sym, ap, ◌∙◌, subst}
 use Prim.Native.Nat.{ℕ, zero, suc, ◌+◌, ◌-◌, ◌*◌, ◌/◌, ◌%◌, ◌^◌, ◌≤◌, ◌<◌}
 use native.Mathlib.Nat.{le_trans, le_of_eq, lt_of_lt_of_le, lt_of_le_of_lt, mul-one, zero-mul, add-zero, mul_right_comm, mul-lt-mul_of_pos_right, lt_of_mul-lt-mul_right, mul-mod_left, eq_of_mul-eq-mul_right, div-add-mod', div-le_of_le-mul, mul_comm, zero-div, zero-mod}
@@ -15,8 +16,8 @@ use lib.Ieee.Nearest.{div_same}
 use lib.Ieee.Compare.{differs_from_itself}
 use borrow.Author.Tests.{ltb-true, ltb-false, eqb-true, eqb-false, lt-ltb, le-ltb, eq-eqb, ne_eqb}
 use Rattle.sample.specs.Level.{power}
-use Rattle.sample.specs.declared.Judged.{Judged}
-use Rattle.sample.specs.declared.Judged.TheVariants.{Whole, NotFinite, OutOfRange, NotWhole}
+use Rattle.sample.specs.Judge.{Judged}
+use Rattle.sample.specs.declared.Fault.TheVariants.{NotFinite, OutOfRange, NotWhole}
 use Rattle.sample.specs.Judge.{signed, judged_ratio, judged_share}
 use Rattle.sample.proofs.Scaled.{product_exact, product_over}
 use Rattle.sample.proofs.Whole.{same_test, nearest, whole_test}
@@ -44,15 +45,15 @@ ratio_same s a c b d C D e =
     let r : eqb (a % c) 0 ≡ eqb (b % d) 0 = same_test (eqb (a % c) 0) (eqb (b % d) 0)
     (λ t. eq→eqb (whole_same a c b d C D e (eqb→eq (a % c) 0 t)))
     (λ t. eq→eqb (whole_same b d a c D C (sym e) (eqb→eq (b % d) 0 t))) in
-    ap (λ (x : Bool). cond x OutOfRange (cond (eqb (a % c) 0) (Whole (signed s (a / c))) NotWhole)) p
-    ∙ ap (λ (x : Bool). cond (ltb (1000000 * d) b) OutOfRange (cond x (Whole (signed s (a / c))) NotWhole)) r
-    ∙ ap (λ (x : ℕ). cond (ltb (1000000 * d) b) OutOfRange (cond (eqb (b % d) 0) (Whole (signed s x)) NotWhole)) (div_same a c b d C D e)
+    ap (λ (x : Bool). cond x (Err OutOfRange) (cond (eqb (a % c) 0) (Ok (signed s (a / c))) (Err NotWhole))) p
+    ∙ ap (λ (x : Bool). cond (ltb (1000000 * d) b) (Err OutOfRange) (cond x (Ok (signed s (a / c))) (Err NotWhole))) r
+    ∙ ap (λ (x : ℕ). cond (ltb (1000000 * d) b) (Err OutOfRange) (cond (eqb (b % d) 0) (Ok (signed s x)) (Err NotWhole))) (div_same a c b d C D e)
 
 -- ---- what x is judged to be. (No product of finite values is a NaN. The tests would take one for a number that is not whole.)
 
 unfoldable pub judged_product : Float → Judged
-judged_product nan = NotWhole
-judged_product (inf s) = OutOfRange
+judged_product nan = Err NotWhole
+judged_product (inf s) = Err OutOfRange
 judged_product (fin s m e) = judged_ratio s (m * up e) (down e)
 
 value_judged : (x : Float) (s : Bool) (a c : ℕ) → 0 < c → HasValue x s a c → judged_product x ≡ judged_ratio s a c
@@ -61,7 +62,7 @@ value_judged nan s a c C v = elim v [ ]
 value_judged (inf _) s a c C v = elim v [ ]
 value_judged (fin t m e) s a c C v = ratio_same t (m * up e) (down e) a c (down_pos e) C v.1 ∙ ap (λ (u : Bool). judged_ratio u a c) v.0
 
-far_out : (s : Bool) (a c : ℕ) → 1000000 * c < a → judged_ratio s a c ≡ OutOfRange
+far_out : (s : Bool) (a c : ℕ) → 1000000 * c < a → judged_ratio s a c ≡ Err OutOfRange
 unfolding judged_ratio
 far_out s a c h = rw (lt-ltb (1000000 * c) a h)
 
@@ -108,7 +109,7 @@ difference_number s m e = go (beq s (not s)) (ltb a a)
     go false true = round_number binary64 (not s) (a - a) (down e * down e)
     go false false = round_number binary64 (s && ltb a a) (a - a) (down e * down e)
 
-pub not_finite : (v : Float) → ne (sub binary64 v v) (sub binary64 v v) ≡ true → NotFinite ≡ judged_share v
+pub not_finite : (v : Float) → ne (sub binary64 v v) (sub binary64 v v) ≡ true → (Err NotFinite) ≡ judged_share v
 unfolding judged_share is_nan
 not_finite nan t = refl
 not_finite (inf s) t = refl
@@ -129,14 +130,14 @@ highest = fin false 15625 (pos 6)
 abbrev pub lowest : Float
 lowest = fin true 15625 (pos 6)
 
-pub too_low : (x : Float) → lt x lowest ≡ true → judged_product x ≡ OutOfRange
+pub too_low : (x : Float) → lt x lowest ≡ true → judged_product x ≡ Err OutOfRange
 unfolding lt judged_product
 too_low nan t = absurd (false≢true t)
 too_low (inf s) t = refl
 too_low (fin false m e) t = absurd (false≢true t)
 too_low (fin true m e) t = far_out true (m * up e) (down e) (ltb-true (1000000 * down e) (m * up e) (simp mul-one at t))
 
-pub too_high : (x : Float) → lt highest x ≡ true → judged_product x ≡ OutOfRange
+pub too_high : (x : Float) → lt highest x ≡ true → judged_product x ≡ Err OutOfRange
 unfolding lt judged_product
 too_high nan t = absurd (false≢true t)
 too_high (inf s) t = refl
@@ -165,7 +166,7 @@ own_zero s m e = rw (mul-one (m * up e), zero-mul (down e)) (is_zero s (eqb (m *
 
 -- ---- what the tests say together
 
-ratio_small : (s : Bool) (a c : ℕ) (b : Bool) → ltb (1000000 * c) a ≡ false → eqb (a % c) 0 ≡ b → judged_ratio s a c ≡ cond b (Whole (signed s (a / c))) NotWhole
+ratio_small : (s : Bool) (a c : ℕ) (b : Bool) → ltb (1000000 * c) a ≡ false → eqb (a % c) 0 ≡ b → judged_ratio s a c ≡ cond b (Ok (signed s (a / c))) (Err NotWhole)
 unfolding judged_ratio
 ratio_small s a c b p q = rw (p, q)
 
@@ -185,7 +186,7 @@ module _ (s : Bool) (m : ℕ) (e : ℤ) (l : lt (fin s m e) lowest ≡ false) (h
         not_same false true n = absurd (true≢false n)
         not_same false false n = refl
 
-    judged_rest : (b : Bool) → ne (nearest (fin s m e)) (fin s m e) ≡ not b → judged_product (fin s m e) ≡ cond b (Whole (signed s (m * up e / down e))) NotWhole
+    judged_rest : (b : Bool) → ne (nearest (fin s m e)) (fin s m e) ≡ not b → judged_product (fin s m e) ≡ cond b (Ok (signed s (m * up e / down e))) (Err NotWhole)
     unfolding judged_product
     judged_rest b t = ratio_small s (m * up e) (down e) b (in_range s m e l h) (rest_is b t)
 
@@ -193,15 +194,15 @@ signed_zero : (s : Bool) → signed s 0 ≡ pos 0
 signed_zero true = refl
 signed_zero false = refl
 
-pub is_zero_whole : (x : Float) → eq x zero_float ≡ true → judged_product x ≡ Whole (pos 0)
+pub is_zero_whole : (x : Float) → eq x zero_float ≡ true → judged_product x ≡ Ok (pos 0)
 unfolding eq judged_product
 is_zero_whole nan z = absurd (false≢true z)
 is_zero_whole (inf s) z = absurd (false≢true z)
 is_zero_whole (fin s m e) z =
     rw (eqb-true (m * up e) 0 (sym (own_zero s m e) ∙ z))
-    (ratio_small s 0 (down e) true (le-ltb (1000000 * down e) 0 (omega arith)) (eq-eqb _ _ (zero-mod (down e))) ∙ ap (λ (x : ℕ). Whole (signed s x)) (zero-div (down e)) ∙ ap Whole (signed_zero s))
+    (ratio_small s 0 (down e) true (le-ltb (1000000 * down e) 0 (omega arith)) (eq-eqb _ _ (zero-mod (down e))) ∙ ap (λ (x : ℕ). Ok (signed s x)) (zero-div (down e)) ∙ ap Ok (signed_zero s))
 
-pub not_whole : (x : Float) → lt x lowest ≡ false → lt highest x ≡ false → eq x zero_float ≡ false → ne (nearest x) x ≡ true → judged_product x ≡ NotWhole
+pub not_whole : (x : Float) → lt x lowest ≡ false → lt highest x ≡ false → eq x zero_float ≡ false → ne (nearest x) x ≡ true → judged_product x ≡ Err NotWhole
 unfolding lt judged_product
 not_whole nan l h z t = refl
 not_whole (inf true) l h z t = absurd (true≢false l)
@@ -216,7 +217,7 @@ castable : (s : Bool) (q : ℕ) → q ≤ 1000000 → T (cond s (leb q (2 ^ 63))
 castable true q h = le→leb q (2 ^ 63) (le_trans h (lit≤ tt))
 castable false q h = lt→ltb q (2 ^ 63) (lt_of_le_of_lt h (lit< tt))
 
-pub is_whole_cast : (x : Float) → lt x lowest ≡ false → lt highest x ≡ false → eq x zero_float ≡ false → ne (nearest x) x ≡ false → T (in_signed binary64 63 x) × (judged_product x ≡ Whole (to_signed 63 x))
+pub is_whole_cast : (x : Float) → lt x lowest ≡ false → lt highest x ≡ false → eq x zero_float ≡ false → ne (nearest x) x ≡ false → T (in_signed binary64 63 x) × (judged_product x ≡ Ok (to_signed 63 x))
 unfolding lt ne eq sub add in_signed whole
 is_whole_cast nan l h z t = absurd (true≢false t)
 is_whole_cast (inf true) l h z t = absurd (true≢false l)
@@ -231,4 +232,4 @@ is_whole_cast (fin s m e) l h z t =
     (and_i (eqb r 0) (leb q (2 ^ 53)) (subst T (sym (rest_is s m e l h z true t)) tt) (le→leb q (2 ^ 53) (le_trans small (lit≤ tt))))
     (no_zero s m (up e) (sym (own_zero s m e) ∙ z)))
     (castable s q small) in
-    (i, judged_rest s m e l h z true t ∙ ap Whole (sym (to_signed_cut binary64 63 s m e i)))
+    (i, judged_rest s m e l h z true t ∙ ap Ok (sym (to_signed_cut binary64 63 s m e i)))

@@ -1,4 +1,5 @@
 -- What the judgement of a sample promises.
+use Rattle.std.specs.Prelude.{Ok}
 use mathlib.Core.Path.{◌≡◌, refl, ap, ◌∙◌}
 use mathlib.Core.Logic.{◌↔◌}
 use mathlib.Core.List.{map}
@@ -13,7 +14,6 @@ use lib.Ieee.Exact.{HasValue}
 use borrow.Author.Tests.{le-ltb, le-leb, ne_eqb}
 use Rattle.sample.specs.declared.Sample.{Sample}
 use Rattle.sample.specs.declared.Sample.TheVariants.{Count, Share}
-use Rattle.sample.specs.declared.Judged.TheVariants.{Whole}
 use Rattle.sample.specs.Level.{largest, scale, InRange, largest_level, level, power}
 use Rattle.sample.specs.Judge.{NanOrInfinite, Outside, Broken, signed, judged_ratio, judged_share, judged_count, judged_of}
 use Rattle.sample.specs.Code.{code_of}
@@ -41,7 +41,7 @@ shares_judged = refl
 -- For the finite share of the sign s and the size m * up e / down e:
 module _ (s : Bool) (m : ℕ) (e : ℤ) where
   -- in range and whole it is accepted, as that number: "Both zeros become 0."
-  pub share_whole : (n : ℕ) → n ≤ largest → m * up e * scale ≡ n * down e → judged_of (Share (fin s m e)) ≡ Whole (signed s n)
+  pub share_whole : (n : ℕ) → n ≤ largest → m * up e * scale ≡ n * down e → judged_of (Share (fin s m e)) ≡ Ok (signed s n)
   unfolding judged_share judged_ratio
   share_whole n h x = rw x (rw (le-ltb _ _ (mul-le-mul_right (down e) h), mul-mod_left n (down e), mul-div_cancel n (down_pos e)))
 
@@ -58,7 +58,7 @@ unfolding judged_share
 nan_refused kind word k h = rw (ne_eqb kind 0 k, is_nan_lem word h)
 
 -- A count in range is accepted as itself.
-pub count_whole : (n : ℤ) → InRange n → judged_of (Count n) ≡ Whole n
+pub count_whole : (n : ℤ) → InRange n → judged_of (Count n) ≡ Ok n
 unfolding judged_count
 count_whole n h = rw (le-leb _ _ h)
 
@@ -75,5 +75,5 @@ pub not_whole : (s : Sample) → (code_of (judged_of s) ≡ 11) ↔ Broken s
 not_whole s = (says s 11, if_broken s)
 
 -- What is accepted is in range, and its level is x + 1,000,000, from 0 to 2,000,000.
-pub accepted_level : (s : Sample) (x : ℤ) → judged_of s ≡ Whole x → InRange x × (x +ℤ pos largest ≡ pos (level x)) × (level x ≤ largest_level)
+pub accepted_level : (s : Sample) (x : ℤ) → judged_of s ≡ Ok x → InRange x × (x +ℤ pos largest ≡ pos (level x)) × (level x ≤ largest_level)
 accepted_level s x e = let r = whole_in_range s x e in (r, level_is x r, level_le x r)

@@ -1,4 +1,5 @@
 -- Every sample that is judged whole is in range, and x + 1,000,000 is then a natural number up to 2,000,000.
+use Rattle.std.specs.Prelude.{Ok, Err}
 use mathlib.Core.Path.{◌≡◌, refl, subst}
 use Prim.Native.Nat.{ℕ, zero, suc, ◌*◌, ◌/◌, ◌%◌, ◌≤◌}
 use native.Mathlib.Nat.{le_trans, le_of_eq, mul_comm, div-le_of_le-mul}
@@ -10,18 +11,18 @@ use lib.Ieee.{nan, inf, fin, up, down}
 use borrow.Author.Tests.{ltb-false, le-ltb}
 use Rattle.sample.specs.declared.Sample.{Sample}
 use Rattle.sample.specs.declared.Sample.TheVariants.{Count, Share}
-use Rattle.sample.specs.declared.Judged.{Judged}
-use Rattle.sample.specs.declared.Judged.TheVariants.{Whole, NotFinite, OutOfRange, NotWhole}
+use Rattle.sample.specs.Judge.{Judged}
+use Rattle.sample.specs.declared.Fault.TheVariants.{NotFinite, OutOfRange, NotWhole}
 use Rattle.sample.specs.Judge.{signed, judged_ratio, judged_share, judged_count, judged_of}
 use Rattle.sample.specs.Level.{largest, scale, InRange, largest_level, level}
 
 -- ---- what is judged whole is in range
 
 abbrev pub WithinRange : Judged → Type 0
-WithinRange (Whole x) = InRange x
-WithinRange NotFinite = Unit
-WithinRange OutOfRange = Unit
-WithinRange NotWhole = Unit
+WithinRange (Ok x) = InRange x
+WithinRange (Err NotFinite) = Unit
+WithinRange (Err OutOfRange) = Unit
+WithinRange (Err NotWhole) = Unit
 
 signed_in : (s : Bool) (n : ℕ) → n ≤ largest → InRange (signed s n)
 signed_in false n h = h
@@ -32,7 +33,7 @@ ratio_within : (s : Bool) (a c : ℕ) → WithinRange (judged_ratio s a c)
 unfolding judged_ratio
 ratio_within s a c = go (ltb (largest * c) a) (eqb (a % c) 0) refl
   where
-    go : (p q : Bool) → ltb (largest * c) a ≡ p → WithinRange (cond p OutOfRange (cond q (Whole (signed s (a / c))) NotWhole))
+    go : (p q : Bool) → ltb (largest * c) a ≡ p → WithinRange (cond p (Err OutOfRange) (cond q (Ok (signed s (a / c))) (Err NotWhole)))
     go true q e = tt
     go false false e = tt
     go false true e = signed_in s (a / c) (div-le_of_le-mul c (le_trans (ltb-false (largest * c) a e) (le_of_eq (mul_comm largest c))))
@@ -41,7 +42,7 @@ count_within : (n : ℤ) → WithinRange (judged_count n)
 unfolding judged_count
 count_within n = go (leb (nat_abs n) largest) (leb→le (nat_abs n) largest)
   where
-    go : (p : Bool) → (T p → InRange n) → WithinRange (cond p (Whole n) OutOfRange)
+    go : (p : Bool) → (T p → InRange n) → WithinRange (cond p (Ok n) (Err OutOfRange))
     go true h = h tt
     go false h = tt
 
@@ -52,7 +53,7 @@ judged_within (Share nan) = tt
 judged_within (Share (inf s)) = tt
 judged_within (Share (fin s m e)) = ratio_within s (m * up e * scale) (down e)
 
-pub whole_in_range : (s : Sample) (x : ℤ) → judged_of s ≡ Whole x → InRange x
+pub whole_in_range : (s : Sample) (x : ℤ) → judged_of s ≡ Ok x → InRange x
 whole_in_range s x e = subst WithinRange e (judged_within s)
 
 -- ---- x + 1,000,000

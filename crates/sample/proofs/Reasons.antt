@@ -1,4 +1,5 @@
 -- Each refusal of a sample has its reason, and each reason its refusal. Assumes nothing.
+use Rattle.std.specs.Prelude.{Ok, Err}
 use Prim.Native.Nat.{ℕ, ◌*◌, ◌/◌, ◌%◌, ◌≤◌, ◌<◌}
 use mathlib.Core.Path.{◌≡◌, refl, subst}
 use mathlib.Core.Bool.{Bool, true, false, cond}
@@ -8,7 +9,7 @@ use lib.Ieee.{nan, inf, fin, up, down}
 use borrow.Author.Tests.{ltb-true, ltb-false, leb-false, eqb-false, lt-ltb, le-ltb, lt-leb, ne_eqb}
 use Rattle.sample.specs.declared.Sample.{Sample}
 use Rattle.sample.specs.declared.Sample.TheVariants.{Count, Share}
-use Rattle.sample.specs.declared.Judged.TheVariants.{Whole, OutOfRange, NotWhole}
+use Rattle.sample.specs.declared.Fault.TheVariants.{OutOfRange, NotWhole}
 use Rattle.sample.specs.Level.{largest, scale}
 use Rattle.sample.specs.Judge.{signed, judged_ratio, judged_share, judged_count, judged_of, NanOrInfinite, Outside, Broken}
 use Rattle.sample.specs.Code.{code_of}
@@ -25,7 +26,7 @@ ratio_said s a c x out broken = go (ltb (largest * c) a) (eqb (a % c) 0) refl re
   where
     go :
         (p q : Bool) → ltb (largest * c) a ≡ p → eqb (a % c) 0 ≡ q →
-        Says (code_of (cond p OutOfRange (cond q (Whole (signed s (a / c))) NotWhole))) x
+        Says (code_of (cond p (Err OutOfRange) (cond q (Ok (signed s (a / c))) (Err NotWhole)))) x
     go true q h k = out (ltb-true (largest * c) a h)
     go false false h k = broken (ltb-false (largest * c) a h) (eqb-false (a % c) 0 k)
     go false true h k = tt
@@ -34,7 +35,7 @@ count_said : (n : ℤ) → Says (code_of (judged_count n)) (Count n)
 unfolding judged_count
 count_said n = go (leb (nat_abs n) largest) refl
   where
-    go : (p : Bool) → leb (nat_abs n) largest ≡ p → Says (code_of (cond p (Whole n) OutOfRange)) (Count n)
+    go : (p : Bool) → leb (nat_abs n) largest ≡ p → Says (code_of (cond p (Ok n) (Err OutOfRange))) (Count n)
     go true x = tt
     go false x = leb-false (nat_abs n) largest x
 

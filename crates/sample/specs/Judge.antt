@@ -1,14 +1,18 @@
 -- What a sample is judged to be: the whole number x that it stands for, or why there is none.
 -- A finite share `fin s m e` is the number m * 2 ^ e, negative where s is true (`Rattle.std.specs.Float`); 2 ^ e is the fraction up e / down e.
 -- No floating operation is used.
-use Rattle.std.specs.Prelude.{ℕ, ◌*◌, ◌/◌, ◌%◌, ◌≤◌, ◌<◌, ◌≡◌, Bool, cond, ltb, leb, eqb, ℤ, pos, neg_ℤ, nat_abs, Float}
+use Rattle.std.specs.Prelude.{ℕ, ◌*◌, ◌/◌, ◌%◌, ◌≤◌, ◌<◌, ◌≡◌, Bool, cond, ltb, leb, eqb, ℤ, pos, neg_ℤ, nat_abs, Float, Ok, Err, Result}
 use Rattle.std.specs.Float.{nan, inf, fin}
 use Rattle.std.specs.Float.Ieee.{up, down}
 use Rattle.sample.specs.Level.{largest, scale}
 use Rattle.sample.specs.declared.Sample.{Sample}
 use Rattle.sample.specs.declared.Sample.TheVariants.{Count, Share}
-use Rattle.sample.specs.declared.Judged.{Judged}
-use Rattle.sample.specs.declared.Judged.TheVariants.{Whole, NotFinite, OutOfRange, NotWhole}
+use Rattle.sample.specs.declared.Fault.{Fault}
+use Rattle.sample.specs.declared.Fault.TheVariants.{NotFinite, OutOfRange, NotWhole}
+
+-- What a sample is judged to be: the whole number x, or what is wrong with it.
+abbrev pub Judged : Type 0
+Judged = Result ℤ Fault
 
 -- The number of size n, negative where s is true: "Both zeros become 0."
 abbrev pub signed : Bool → ℕ → ℤ
@@ -16,17 +20,17 @@ signed s n = cond s (neg_ℤ (pos n)) (pos n)
 
 -- The x of size a / c, negative where s is true: "Range is judged before wholeness".
 unfoldable pub judged_ratio : Bool → ℕ → ℕ → Judged
-judged_ratio s a c = cond (ltb (largest * c) a) OutOfRange (cond (eqb (a % c) 0) (Whole (signed s (a / c))) NotWhole)
+judged_ratio s a c = cond (ltb (largest * c) a) (Err OutOfRange) (cond (eqb (a % c) 0) (Ok (signed s (a / c))) (Err NotWhole))
 
 -- "A share v becomes x = 65,536 times v, accepted only if that is whole and in range."; "NaN, either infinity: refused, 9".
 unfoldable pub judged_share : Float → Judged
-judged_share nan = NotFinite
-judged_share (inf s) = NotFinite
+judged_share nan = Err NotFinite
+judged_share (inf s) = Err NotFinite
 judged_share (fin s m e) = judged_ratio s (m * up e * scale) (down e)
 
 -- A count stands for itself, and is in range (`InRange`) or not.
 unfoldable pub judged_count : ℤ → Judged
-judged_count n = cond (leb (nat_abs n) largest) (Whole n) OutOfRange
+judged_count n = cond (leb (nat_abs n) largest) (Ok n) (Err OutOfRange)
 
 -- "Each sample arrives either as a signed count or as a 64-bit floating share."
 abbrev pub judged_of : Sample → Judged

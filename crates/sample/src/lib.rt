@@ -3,13 +3,16 @@
 
 #![tactic(auto)]
 
-ghost use Rattle.std.specs.Prelude.{◌≡◌};
+ghost use Rattle.std.specs.Prelude.{◌≡◌, Err};
 ghost use Rattle.std.specs.Float.{binary64};
 ghost use Rattle.std.specs.Float.Ieee.{of_bits};
 ghost use Rattle.sample.specs.Judge.{judged_of, judged_count, judged_share};
 ghost use Rattle.sample.specs.Level.{InRange, level};
-ghost use Rattle.sample.specs.Code.{level_of};
+ghost use Rattle.reply.specs.Refusal.{number_of};
+ghost use Rattle.sample.specs.Code.{code_of, level_of};
 ghost use Rattle.sample.specs.Word.{count_of, sample_of};
+
+use reply::Reason;
 
 // The largest sample.
 const LARGEST: i64 = 1000000;
@@ -26,55 +29,67 @@ pub enum Sample {
     Share(f64),
 }
 
-// The whole number x, or why there is none: the replies 9, 10 and 11.
-#[derive(Clone, Copy)]
-pub enum Judged {
-    Whole(i64),
+// Why a sample is no whole number in range.
+#[derive(Clone, Copy, Debug, PartialEq, Eq)]
+pub enum Fault {
     NotFinite,
     OutOfRange,
     NotWhole,
 }
 
+// The replies 9, 10 and 11.
+impl From<Fault> for Reason {
+    ghost from_gives = { λ f r. number_of r ≡ code_of (Err f) };
+
+    fn from(fault: Fault) -> Reason {
+        match fault {
+            Fault::NotFinite => Reason::ShareNotFinite,
+            Fault::OutOfRange => Reason::SampleOutOfRange,
+            Fault::NotWhole => Reason::ShareNotWhole,
+        }
+    }
+}
+
 // A count stands for itself.
-fn judge_count(n: i64) -> Judged
+fn judge_count(n: i64) -> Result<i64, Fault>
     ensures { result ≡ judged_count n }
 {
     if SMALLEST <= n && n <= LARGEST {
-        return Judged::Whole(n);
+        return Ok(n);
     }
-    Judged::OutOfRange
+    Err(Fault::OutOfRange)
 }
 
 // x = 65,536 v. The product is exact wherever x is in range, and overflows only out of range.
-fn judge_share(v: f64) -> Judged
+fn judge_share(v: f64) -> Result<i64, Fault>
     ensures { result ≡ judged_share v }
 {
     // v - v is a NaN where v is a NaN or an infinity, and only there.
     let d = v - v;
     if d != d {
-        return Judged::NotFinite;
+        return Err(Fault::NotFinite);
     }
     let x = v * 65536.0;
     if x < -1000000.0 {
-        return Judged::OutOfRange;
+        return Err(Fault::OutOfRange);
     }
     if 1000000.0 < x {
-        return Judged::OutOfRange;
+        return Err(Fault::OutOfRange);
     }
     // The cast below is lossless at every whole number but -0.0.
     if x == 0.0 {
-        return Judged::Whole(0);
+        return Ok(0);
     }
     // Values from 2^52 to 2^53 are whole, so x comes back from there only where it is whole.
     let nearest = (x + 6755399441055744.0) - 6755399441055744.0;
     if nearest != x {
-        return Judged::NotWhole;
+        return Err(Fault::NotWhole);
     }
-    Judged::Whole(x as i64)
+    Ok(x as i64)
 }
 
 // The whole number that a sample stands for, or why there is none.
-pub fn judge(s: Sample) -> Judged
+pub fn judge(s: Sample) -> Result<i64, Fault>
     ensures { result ≡ judged_of s }
 {
     match s {
@@ -116,14 +131,7 @@ pub fn sample_of(kind: u64, word: u64) -> Sample
     Sample::Share(v)
 }
 
-// A judged sample as the engine takes it: x + 1,000,000, from 0 to 2,000,000, or the reply's code.
-#[derive(Clone, Copy)]
-pub enum Level {
-    At(u64),
-    Refused(u64),
-}
-
-// x + 1,000,000.
+// A whole number as the engine takes it: x + 1,000,000.
 fn raised(x: i64) -> u64
     requires { InRange x }
     ensures { result ≡ level x }
@@ -131,18 +139,10 @@ fn raised(x: i64) -> u64
     (x + LARGEST) as u64
 }
 
-// The level of a sample, or the code of its refusal.
-pub fn level_of(s: Sample) -> Level
+// The level of a sample, from 0 to 2,000,000, or why it has none.
+pub fn level_of(s: Sample) -> Result<u64, Fault>
     ensures { result ≡ level_of (judged_of s) }
 {
-    let j = judge(s);
-    match j {
-        Judged::Whole(x) => {
-            let u = raised(x);
-            Level::At(u)
-        }
-        Judged::NotFinite => Level::Refused(9),
-        Judged::OutOfRange => Level::Refused(10),
-        Judged::NotWhole => Level::Refused(11),
-    }
+    let x = judge(s)?;
+    Ok(raised(x))
 }

@@ -1,4 +1,5 @@
 -- What reading cuts promises, for all that is sought. Assumes nothing.
+use Rattle.std.specs.Prelude.{Some, None}
 use Prim.Native.Nat.{ℕ}
 use mathlib.Core.Path.{◌≡◌, refl, sym}
 use mathlib.Core.Logic.{◌↔◌}
@@ -13,13 +14,12 @@ use Rattle.reply.specs.Answered.{Answered}
 use Rattle.reply.proofs.First.{if_refused}
 use Rattle.reply.proofs.Exactly.{answered}
 use Rattle.walk.specs.declared.Sought.{Sought}
-use Rattle.walk.specs.declared.Carried.TheVariants.{NoKernel, Of}
 use Rattle.walk.specs.Answer.{Bare, carried_number, cuts_tries, cuts_codes, cuts_reply, refused_answer, answer_of, out_left}
 use Rattle.walk.specs.Accepted.{CutsAccepted}
 use Rattle.walk.proofs.Answers as answers
 
 -- "'no kernel', told apart from all three"
-pub no_kernel_apart : (k : Kernel) → carried_number (Of k) ≡ carried_number NoKernel → ⊥
+pub no_kernel_apart : (k : Kernel) → carried_number (Some k) ≡ carried_number None → ⊥
 no_kernel_apart Linear e = omega arith
 no_kernel_apart Spelling e = omega arith
 no_kernel_apart Energy e = omega arith

@@ -1,4 +1,5 @@
 -- Reading cuts off a table of the chosen last starts gives the chosen cutting. Assumes nothing.
+use Rattle.std.specs.Prelude.{Some, None}
 use Prim.Native.Nat.{ℕ, zero, suc, ◌+◌, ◌-◌, ◌*◌, ◌≤◌, ◌<◌}
 use mathlib.Core.Path.{◌≡◌, refl, sym, ap, ◌∙◌}
 use mathlib.Core.List.{List, [], ◌∷◌, ◌++◌, append_assoc, reverse-cons}
@@ -26,7 +27,6 @@ use Rattle.reply.proofs.First.{if_done_lem}
 use Rattle.reply.proofs.Exactly.{code_of, clear_done}
 use Rattle.record.specs.Accepted.{Fit}
 use Rattle.walk.specs.declared.Answer.{Answer}
-use Rattle.walk.specs.declared.Carried.TheVariants.{NoKernel, Of}
 use Rattle.walk.specs.Walk.{start_in, Walks, zeros, met}
 use Rattle.walk.specs.Answer.{seeking, answer_bytes, cuts_tries, cuts_reply, carries, answer_of, row_of, out_left}
 use Rattle.walk.specs.Accepted.{CutsAccepted}
@@ -101,7 +101,7 @@ module _ (w : ℕ → ℕ → ℕ) (n dmax : ℕ) (ys : List ℕ) (space : start
   pub reading :
       (lent : ℕ) → answer_bytes ≤ lent → (k : Kernel) → kernel ≡ number_of k →
       answer_of (seeking n D kernel) table lent
-      ≡ record { reply = done; kernel = Of k; starts = chosen_in w least_length 0 D n ++ replicate (most_segments - D) 0 }
+      ≡ record { reply = done; kernel = Some k; starts = chosen_in w least_length 0 D n ++ replicate (most_segments - D) 0 }
   unfolding answer_of cuts_reply
   reading lent h k named =
       let s = fit.segments in
@@ -110,7 +110,7 @@ module _ (w : ℕ → ℕ → ℕ) (n dmax : ℕ) (ys : List ℕ) (space : start
       let starts-are = met_chosen w dmax n (start_in table n) holds (D - 1) n (omega (arith, s.some_segments)) small (omega (arith, s.some_segments, s.fits_days)) (omega arith) in
       let r = first_of (cuts_tries (seeking n D kernel) table lent) in
       rw (
-        if_done_lem r (carries (named_of kernel)) NoKernel (code_of ok),
+        if_done_lem r (carries (named_of kernel)) None (code_of ok),
         if_done_lem r (met (start_in table n) (D - 1) n) zeros (code_of ok),
         ok,
         ← (known k kernel named),

@@ -1,6 +1,5 @@
 -- `engine::fill_from` meets its contract: what is read are the record's levels.
-use Rattle.std.proofs.Common.{◌≡◌, sym, ◌∙◌, length, arith}
-use Rattle.kernel.specs.declared.Named.TheVariants.{Known}
+use Rattle.std.proofs.Common.{◌≡◌, sym, ◌∙◌, length, arith, Some}
 use Rattle.kernel.specs.Kernel.{named_of}
 use Rattle.kernel.proofs.Number.{not_unknown}
 use Rattle.record.specs.Body.{observations}
@@ -28,7 +27,7 @@ pub returns : goal.returns
 returns c =
     let a = c.args in
     let whole = all_whole c.requires.accepted in
-    let known : named_of a.asked.kernel ≡ Known c.in-Known.k = sym c.kernel_of-named.ensures ∙ c.in-Known.is in
+    let known : named_of a.asked.kernel ≡ Some c.in-Known.k = sym c.kernel_of-named.ensures ∙ c.in-Known.is in
     let out = c.read_levels.new.out in
     let n : length out ≡ observations a.body.now = omega (arith, c.requires.count) in
     let read : out ≡ levels_of a.asked a.body.now =

@@ -15,5 +15,3 @@ abbrev pub invariant-loop-i : goal.invariant-loop-i
 invariant-loop-i l =
     (length l.out ≡ length l.initial.out) × ((j : ℕ) → j < l.i → get_or l.out j 0 ≡ number l.asked l.body j)
 
-abbrev pub decreases-loop-i : goal.decreases-loop-i
-decreases-loop-i l = l.n - l.i

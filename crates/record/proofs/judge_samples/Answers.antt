@@ -1,0 +1,18 @@
+-- `record::judge_samples` meets its contract. The loop's invariant: what is left to try from i on gives the reply.
+-- Assumes nothing.
+use Rattle.std.proofs.Common.{◌∙◌, arith}
+use Rattle.reply.proofs.Answers.{each_refused, each_clear, each_end}
+use Rattle.record.proofs.Samples.{level_given, level_clear}
+use Rattle.record.proofs.judge_samples.Goals as goal
+
+pub returns-in-Err : goal.returns-in-Err
+returns-in-Err c =
+    c.at.ensures
+    ∙ each_refused _ _ _ _ c.loop-i.invariant (omega arith) c.from.result _ _
+    (rw c.from.ensures (level_given _ c.loop-i.i _ c.in-Err.ensures))
+
+pub loop-i-preserved : goal.loop-i-preserved
+loop-i-preserved c = each_clear _ _ _ _ c.loop-i.invariant (omega arith) (level_clear _ c.loop-i.i _ c.in_default.ensures)
+
+pub returns : goal.returns
+returns c = each_end _ _ _ _ c.loop-i.invariant (omega arith)
