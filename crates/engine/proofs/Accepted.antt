@@ -1,7 +1,7 @@
 -- A record is accepted exactly where it is `Accepted`, and 12 is never given. Assumes nothing.
 use Rattle.std.specs.Prelude.{Some}
 use Prim.Native.Nat.{ℕ, ◌+◌, ◌*◌, ◌≤◌}
-use mathlib.Core.Path.{◌≡◌, ap, ◌∙◌}
+use mathlib.Core.Path.{◌≡◌, ◌∙◌}
 use mathlib.Core.Bool.{false, cond}
 use mathlib.Core.Logic.{◌↔◌}
 use mathlib.Core.List.{List}
@@ -13,8 +13,7 @@ use Rattle.cutting.specs.Limits.{cost_bytes, start_bytes}
 use Rattle.kernel.specs.declared.Kernel.{Kernel}
 use Rattle.kernel.specs.Kernel.{named_of}
 use Rattle.kernel.proofs.Number.{known_number}
-use Rattle.reply.specs.declared.Reply.{Reply}
-use Rattle.reply.specs.Reply.{refusal}
+use Rattle.reply.specs.Reply.{done}
 use Rattle.reply.specs.Tries.{Clear, Coded}
 use Rattle.reply.proofs.Exactly.{accepted_iff}
 use Rattle.reply.proofs.Answers.{last_fails, past}
@@ -49,15 +48,14 @@ module _ (asked : Asked) (body : List ℕ) (costs starts : ℕ) where
     }
 
     -- the code's own test for 12, which the bound on each observation gives, agrees
-    pub last_try : (code : ℕ) → code ≡ cond (ltb most_totalled (observations body)) 12 0 → (r : Reply) → r ≡ refusal code 0 →
-        r ≡ solve_reply asked body costs starts
+    pub never_total : (code : ℕ) → code ≡ cond (ltb most_totalled (observations body)) 12 0 → code ≡ 0
+    never_total code e = let few = shape_fit.count.few_days in e ∙ rw (le-ltb most_totalled (observations body) (omega arith))
+
+    pub last_try : done ≡ solve_reply asked body costs starts
     unfolding solve_reply
-    last_try code e r q =
-        let few = shape_fit.count.few_days in
-        let none : code ≡ 0 = e ∙ rw (le-ltb most_totalled (observations body) (omega arith)) in
-        past (shape_tries asked (length body) costs starts) _ r shape
-        (past (data_tries asked body (observations body)) _ r rest
-        (q ∙ ap (λ (x : ℕ). refusal x 0) none ∙ last_fails _ _ no_total))
+    last_try =
+        past (shape_tries asked (length body) costs starts) _ done shape
+        (past (data_tries asked body (observations body)) _ done rest (last_fails _ _ no_total))
 
   pub solve_coded : Coded (solve_tries asked body costs starts)
   solve_coded = search depth 20

@@ -1,28 +1,43 @@
 -- `engine::judge` meets its contract: the tries on numbers and lengths, those on the observations, and then 12, whose reason never holds.
 -- Assumes nothing.
-use mathlib.Core.Path.{◌∙◌}
-use lib.ListN.{length}
-use Rattle.reply.proofs.Answers.{answers, stop}
+use Rattle.std.proofs.Common.{◌≡◌, ℕ, List, refl, length}
+use Rattle.reply.specs.Reply.{done}
+use Rattle.reply.specs.Tries.{Clear, first_of}
+use Rattle.record.specs.declared.Asked.{Asked}
+use Rattle.reply.proofs.Answers.{answers, reason_told, refusal_handed, some_number}
 use Rattle.reply.proofs.Exactly.{passed}
 use Rattle.record.specs.Body.{observations}
 use Rattle.record.specs.Tries.{data_tries}
 use Rattle.engine.specs.Solve.{shape_tries, solve_reply}
-use Rattle.engine.proofs.Accepted.{last_try}
+use Rattle.engine.proofs.Accepted.{last_try, never_total}
 use Rattle.engine.proofs.judge.Goals as goal
 
-pub returns-then-shape-ne0 : goal.returns-then-shape-ne0
-unfolding solve_reply
-returns-then-shape-ne0 c = c.refused.ensures ∙ stop _ _ _ c.shape_code-shape.ensures c.if-shape-ne0.true
+-- what is done is clear
+shape_clear : (asked : Asked) (bytes costs starts : ℕ) → done ≡ first_of (shape_tries asked bytes costs starts) → Clear (shape_tries asked bytes costs starts)
+shape_clear asked bytes costs starts e = passed (shape_tries asked bytes costs starts) (search depth 20) done e refl
 
-pub returns-then-data-ne0 : goal.returns-then-data-ne0
-unfolding solve_reply
-returns-then-data-ne0 c = search answers
+data_clear : (asked : Asked) (body : List ℕ) → done ≡ first_of (data_tries asked body (observations body)) → Clear (data_tries asked body (observations body))
+data_clear asked body e = passed (data_tries asked body (observations body)) (search depth 20) done e refl
 
-pub returns : goal.returns
-returns c =
+pub returns-in_err-kernel-clause-reply : goal.returns-in_err-kernel-clause-reply
+unfolding solve_reply
+returns-in_err-kernel-clause-reply c = reason_told _ _ _ c.from_residual.ensures.1 (search (answers, c.in_err-kernel.ensures.reply))
+
+pub returns-in_err-judge_data-clause-reply : goal.returns-in_err-judge_data-clause-reply
+unfolding solve_reply
+returns-in_err-judge_data-clause-reply c =
+    refusal_handed _ _ _ c.from_residual-in_err-judge_data.ensures.1
+    (search (answers, c.in_ok-kernel.ensures.reply, c.in_err-judge_data.ensures))
+
+pub returns-in_err-judge_total-clause-reply : goal.returns-in_err-judge_total-clause-reply
+returns-in_err-judge_total-clause-reply c =
     let a = c.args in
-    let body = a.body.now in
-    last_try a.asked body a.costs a.starts
-    (passed (shape_tries a.asked (length body) a.costs a.starts) (search depth 20) _ c.shape_code-shape.ensures c.if-shape-ne0.false)
-    (passed (data_tries a.asked body (observations body)) (search depth 20) _ c.data_reply-data.ensures c.if-data-ne0.false)
-    _ c.total_code.ensures _ c.refused-2.ensures
+    let shape = shape_clear a.asked (length a.body.now) a.costs a.starts c.in_ok-kernel.ensures.reply in
+    let rest = data_clear a.asked a.body.now c.in_ok-judge_data.ensures in
+    absurd (some_number _ (never_total a.asked a.body.now a.costs a.starts shape rest _ c.in_err-judge_total.ensures))
+
+pub returns-clause-reply : goal.returns-clause-reply
+returns-clause-reply c =
+    let a = c.args in
+    last_try a.asked a.body.now a.costs a.starts
+    (shape_clear a.asked (length a.body.now) a.costs a.starts c.in_ok-kernel.ensures.reply) (data_clear a.asked a.body.now c.in_ok-judge_data.ensures)

@@ -1,9 +1,9 @@
--- `engine::room_code` meets its contract. Assumes nothing.
+-- `engine::judge_room` meets its contract. Assumes nothing.
 use Prim.Native.Nat.{◌+◌, ◌*◌, ◌/◌, ◌≤◌, ◌<◌}
 use native.Mathlib.Omega.{arith}
 use Rattle.cutting.specs.Limits.{cost_bytes, start_bytes}
 use Rattle.reply.proofs.Answers.{answers}
-use Rattle.engine.proofs.room_code.Goals as goal
+use Rattle.engine.proofs.judge_room.Goals as goal
 
 pub returns-then-costs-entries : goal.returns-then-costs-entries
 returns-then-costs-entries c =
