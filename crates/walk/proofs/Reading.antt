@@ -28,7 +28,7 @@ use Rattle.reply.proofs.Exactly.{code_of, clear_done}
 use Rattle.record.specs.Accepted.{Fit}
 use Rattle.walk.specs.declared.Answer.{Answer}
 use Rattle.walk.specs.Walk.{start_in, Walks, zeros, met}
-use Rattle.walk.specs.Answer.{seeking, answer_bytes, cuts_tries, cuts_reply, carries, answer_of, row_of, out_left}
+use Rattle.walk.specs.Answer.{seeking, answer_bytes, cuts_tries, cuts_reply, answer_of, row_of, out_left}
 use Rattle.walk.specs.Accepted.{CutsAccepted}
 use Rattle.walk.proofs.Answers.{clear_accepted, answer_reply}
 
@@ -110,7 +110,7 @@ module _ (w : ℕ → ℕ → ℕ) (n dmax : ℕ) (ys : List ℕ) (space : start
       let starts-are = met_chosen w dmax n (start_in table n) holds (D - 1) n (omega (arith, s.some_segments)) small (omega (arith, s.some_segments, s.fits_days)) (omega arith) in
       let r = first_of (cuts_tries (seeking n D kernel) table lent) in
       rw (
-        if_done_lem r (carries (named_of kernel)) None (code_of ok),
+        if_done_lem r (named_of kernel) None (code_of ok),
         if_done_lem r (met (start_in table n) (D - 1) n) zeros (code_of ok),
         ok,
         ← (known k kernel named),

@@ -13,6 +13,3 @@ row read out i = fill start_bytes (most_segments - 1) 1 (λ d i. get_or read i 0
 
 abbrev pub invariant-loop-i : goal.invariant-loop-i
 invariant-loop-i l = (l.i ≤ most_segments) × (l.out ≡ row l.read l.initial.out l.i)
-
-abbrev pub decreases-loop-i : goal.decreases-loop-i
-decreases-loop-i l = most_segments - l.i

@@ -1,10 +1,10 @@
--- `walk::room_code` meets its contract. Assumes nothing.
+-- `walk::judge_room` meets its contract. Assumes nothing.
 use Prim.Native.Nat.{◌+◌, ◌*◌, ◌/◌, ◌≤◌, ◌<◌}
 use native.Mathlib.Omega.{arith}
 use Rattle.cutting.specs.Limits.{start_bytes}
 use Rattle.reply.proofs.Answers.{answers}
 use Rattle.walk.specs.Answer.{answer_bytes}
-use Rattle.walk.proofs.room_code.Goals as goal
+use Rattle.walk.proofs.judge_room.Goals as goal
 
 pub returns-then-bytes-d : goal.returns-then-bytes-d
 returns-then-bytes-d c =
