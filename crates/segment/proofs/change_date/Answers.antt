@@ -1,35 +1,32 @@
--- `segment::change_date` meets its contract. Assumes nothing.
-use Rattle.std.proofs.Common.{ℕ, List, ◌≡◌, sym, ap, ◌∙◌, arith}
+-- `segment::change_date` meets its contract.
+use Rattle.std.proofs.Common.{ℕ, List, ◌≡◌, sym, ap, arith}
 use Rattle.reply.specs.declared.Reply.{Reply}
+use Rattle.reply.specs.Reply.{done}
 use Rattle.segment.specs.Date.{DateAccepted, date_reply}
-use Rattle.segment.proofs.Start.{accepted, dated, refused}
+use Rattle.segment.proofs.Start.{accepted, dated_done, dated_refused}
 use Rattle.segment.proofs.change_date.Goals as goal
 
 -- the index is accepted
-taken : (days : List ℕ) (at : ℕ) (r : Reply) → r ≡ date_reply days at → r.code ≡ 0 → DateAccepted days at
-taken days at r e z = (accepted days at).0 (ap (λ (r : Reply). r.code) (sym e) ∙ z)
+taken : (days : List ℕ) (at : ℕ) → done ≡ date_reply days at → DateAccepted days at
+taken days at e = (accepted days at).0 (ap (λ (r : Reply). r.code) (sym e))
 
-pub returns-then-reply-ne0 : goal.returns-then-reply-ne0
-returns-then-reply-ne0 c =
-    let a = c.args in
-    refused a.days.now a.at.0 _ c.judge_start-reply.ensures c.if-reply-ne0.true
+pub returns-in_err-judge_start : goal.returns-in_err-judge_start
+returns-in_err-judge_start c = dated_refused _ _ _ _ c.from_residual.ensures.1 c.in_err-judge_start.ensures
 
 pub overflow_sub-i : goal.overflow_sub-i
-overflow_sub-i c = (taken _ _ _ c.judge_start-reply.ensures c.if-reply-ne0.false).later
+overflow_sub-i c = (taken _ _ c.in_ok-judge_start.ensures).later
 
 pub offset_bounds-days-i : goal.offset_bounds-days-i
-offset_bounds-days-i c = let at = taken _ _ _ c.judge_start-reply.ensures c.if-reply-ne0.false in omega (arith, at.below, at.count.few_days)
+offset_bounds-days-i c = let at = taken _ _ c.in_ok-judge_start.ensures in omega (arith, at.below, at.count.few_days)
 
 pub bounds-days-i : goal.bounds-days-i
-bounds-days-i c = omega (arith, (taken _ _ _ c.judge_start-reply.ensures c.if-reply-ne0.false).below)
+bounds-days-i c = omega (arith, (taken _ _ c.in_ok-judge_start.ensures).below)
 
 pub offset_bounds-days-i-2 : goal.offset_bounds-days-i-2
-offset_bounds-days-i-2 c = let at = taken _ _ _ c.judge_start-reply.ensures c.if-reply-ne0.false in omega (arith, at.below, at.count.few_days)
+offset_bounds-days-i-2 c = let at = taken _ _ c.in_ok-judge_start.ensures in omega (arith, at.below, at.count.few_days)
 
 pub bounds-days-i-2 : goal.bounds-days-i-2
-bounds-days-i-2 c = (taken _ _ _ c.judge_start-reply.ensures c.if-reply-ne0.false).below
+bounds-days-i-2 c = (taken _ _ c.in_ok-judge_start.ensures).below
 
 pub returns : goal.returns
-returns c =
-    let a = c.args in
-    dated a.days.now a.at.0 _ c.judge_start-reply.ensures c.if-reply-ne0.false _ c.midpoint-day.ensures
+returns c = dated_done _ _ c.in_ok-judge_start.ensures _ c.midpoint.ensures

@@ -1,16 +1,24 @@
--- `segment::judge_start` meets its contract: one list of tries after the other. Assumes nothing.
-use Rattle.reply.proofs.Answers.{answers, by_code}
+-- `segment::judge_start` meets its contract: one list of tries after the other.
+use Rattle.reply.proofs.Answers.{answers, reason_told, refusal_handed}
 use Rattle.segment.specs.Date.{date_reply}
 use Rattle.segment.proofs.judge_start.Goals as goal
 
-pub returns-then-count-ne0 : goal.returns-then-count-ne0
+pub returns-in_err-judge_count : goal.returns-in_err-judge_count
 unfolding date_reply
-returns-then-count-ne0 c = search (by_code, answers)
+returns-in_err-judge_count c = reason_told _ _ _ c.from_residual.ensures.1 (search (answers, c.in_err-judge_count.ensures))
 
-pub returns-then-rising-ne0 : goal.returns-then-rising-ne0
+pub returns-in_err-judge_rising : goal.returns-in_err-judge_rising
 unfolding date_reply
-returns-then-rising-ne0 c = search answers
+returns-in_err-judge_rising c =
+    refusal_handed _ _ _ c.from_residual-in_err-judge_rising.ensures.1
+    (search (answers, c.in_ok-judge_count.ensures, c.in_err-judge_rising.ensures))
+
+pub returns-in_err-judge_index : goal.returns-in_err-judge_index
+unfolding date_reply
+returns-in_err-judge_index c =
+    reason_told _ _ _ c.from_residual-in_err-judge_index.ensures.1
+    (search (answers, c.in_ok-judge_count.ensures, c.in_ok-judge_rising.ensures, c.in_err-judge_index.ensures))
 
 pub returns : goal.returns
 unfolding date_reply
-returns c = search (by_code, answers)
+returns c = search (answers, c.in_ok-judge_count.ensures, c.in_ok-judge_rising.ensures, c.in_ok-judge_index.ensures)

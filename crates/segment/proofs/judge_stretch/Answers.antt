@@ -1,24 +1,37 @@
--- `segment::judge_stretch` meets its contract: one list of tries after the other. Assumes nothing.
-use Rattle.reply.proofs.Answers.{answers, by_code}
+-- `segment::judge_stretch` meets its contract: one list of tries after the other.
+use Rattle.reply.proofs.Answers.{answers, reason_told, refusal_handed}
 use Rattle.segment.specs.Summary.{summary_reply}
 use Rattle.segment.proofs.judge_stretch.Goals as goal
 
-pub returns-then-lent-ne0 : goal.returns-then-lent-ne0
+pub returns-in_err-judge_lent-clause-reply : goal.returns-in_err-judge_lent-clause-reply
 unfolding summary_reply
-returns-then-lent-ne0 c = search (by_code, answers)
+returns-in_err-judge_lent-clause-reply c = reason_told _ _ _ c.from_residual.ensures.1 (search (answers, c.in_err-judge_lent.ensures))
 
-pub returns-then-count-ne0 : goal.returns-then-count-ne0
+pub returns-in_err-judge_count-clause-reply : goal.returns-in_err-judge_count-clause-reply
 unfolding summary_reply
-returns-then-count-ne0 c = search (by_code, answers)
+returns-in_err-judge_count-clause-reply c =
+    reason_told _ _ _ c.from_residual-in_err-judge_count.ensures.1
+    (search (answers, c.in_ok-judge_lent.ensures, c.in_err-judge_count.ensures))
 
-pub returns-then-named-ne0 : goal.returns-then-named-ne0
+pub returns-in_err-kernel-clause-reply : goal.returns-in_err-kernel-clause-reply
 unfolding summary_reply
-returns-then-named-ne0 c = search (by_code, answers)
+returns-in_err-kernel-clause-reply c =
+    reason_told _ _ _ c.from_residual-in_err-kernel.ensures.1
+    (search (answers, c.in_ok-judge_lent.ensures, c.in_ok-judge_count.ensures, c.in_err-kernel.ensures.reply))
 
-pub returns-then-data-ne0 : goal.returns-then-data-ne0
+pub returns-in_err-judge_data-clause-reply : goal.returns-in_err-judge_data-clause-reply
 unfolding summary_reply
-returns-then-data-ne0 c = search answers
+returns-in_err-judge_data-clause-reply c =
+    refusal_handed _ _ _ c.from_residual-in_err-judge_data.ensures.1
+    (search (answers, c.in_ok-judge_lent.ensures, c.in_ok-judge_count.ensures, c.in_ok-kernel.ensures.reply, c.in_err-judge_data.ensures))
 
-pub returns : goal.returns
+pub returns-in_err-judge_within-clause-reply : goal.returns-in_err-judge_within-clause-reply
 unfolding summary_reply
-returns c = search (by_code, answers)
+returns-in_err-judge_within-clause-reply c =
+    reason_told _ _ _ c.from_residual-in_err-judge_within.ensures.1
+    (search (answers, c.in_ok-judge_lent.ensures, c.in_ok-judge_count.ensures, c.in_ok-kernel.ensures.reply, c.in_ok-judge_data.ensures, c.in_err-judge_within.ensures))
+
+pub returns-clause-reply : goal.returns-clause-reply
+unfolding summary_reply
+returns-clause-reply c =
+    search (answers, c.in_ok-judge_lent.ensures, c.in_ok-judge_count.ensures, c.in_ok-kernel.ensures.reply, c.in_ok-judge_data.ensures, c.in_ok-judge_within.ensures)

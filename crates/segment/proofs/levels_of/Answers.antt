@@ -15,29 +15,24 @@ use Rattle.segment.proofs.levels_of.Goals as goal
 -- the level at i is added to the levels before it
 module _ (asked : Asked) (body : List ℕ) (first len : ℕ) (stretch : Stretch asked body first len) (i total : ℕ)
     (from : first ≤ i) (upto : i < first + len) (sum_is : total ≡ sum level (slice first i (samples asked body)))
-    (v : Result ℕ Fault) (is : v ≡ level_of (judged_at asked body i)) where
-  added : total + level_number v ≡ sum level (slice first (i + 1) (samples asked body))
-  added =
-      ap (λ (v : Result ℕ Fault). total + level_number v) is
-      ∙ one_added asked body first len stretch i total from upto sum_is
+    (v : Result ℕ Fault) (is : v ≡ level_of (judged_at asked body i)) (u : ℕ) (at : u ≡ level_number v) where
+  added : total + u ≡ sum level (slice first (i + 1) (samples asked body))
+  added = ap (λ (u : ℕ). total + u) (at ∙ ap level_number is) ∙ one_added asked body first len stretch i total from upto sum_is
 
-  added_fits : total + level_number v ≤ most_observations * largest_level
+  added_fits : total + u ≤ most_observations * largest_level
   added_fits = omega (arith, added, added_small asked body first len stretch (i + 1) (omega arith))
 
 pub loop-i-init : goal.loop-i-init
-loop-i-init c =
-    let a = c.args in
-    (omega arith, omega arith, none_added a.asked a.body.now a.first.0 a.len c.requires)
+loop-i-init c = none_added c.args.asked c.args.body.now c.args.first.0 c.args.len c.requires
 
-pub with_level-total-requires : goal.with_level-total-requires
-with_level-total-requires c =
+pub overflow_add-total : goal.overflow_add-total
+overflow_add-total c =
     let a = c.args in
     let l = c.loop-i in
-    omega (arith, added_fits a.asked a.body.now a.first.0 a.len c.requires l.i l.total l.invariant.0 (omega arith) l.invariant.2 _ c.level_at-l.ensures)
+    omega (arith, added_fits a.asked a.body.now a.first.0 a.len c.requires l.i l.total l.auto.i c.loop-i-test.true l.invariant _ c.level_at.ensures _ c.unwrap_or-total.ensures)
 
 pub loop-i-preserved : goal.loop-i-preserved
 loop-i-preserved c =
     let a = c.args in
     let l = c.loop-i in
-    let more = added a.asked a.body.now a.first.0 a.len c.requires l.i l.total l.invariant.0 (omega arith) l.invariant.2 _ c.level_at-l.ensures in
-    (omega arith, omega arith, c.with_level-total.ensures ∙ more)
+    added a.asked a.body.now a.first.0 a.len c.requires l.i l.total l.auto.i c.loop-i-test.true l.invariant _ c.level_at.ensures _ c.unwrap_or-total.ensures

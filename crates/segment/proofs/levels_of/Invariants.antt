@@ -9,8 +9,4 @@ use Rattle.record.specs.Body.{samples}
 use Rattle.segment.proofs.levels_of.Given as goal
 
 abbrev pub invariant-loop-i : goal.invariant-loop-i
-invariant-loop-i l =
-    (l.start ≤ l.i) × (l.i ≤ l.end) × (l.total ≡ sum level (slice l.start l.i (samples l.asked l.body)))
-
-abbrev pub decreases-loop-i : goal.decreases-loop-i
-decreases-loop-i l = l.end - l.i
+invariant-loop-i l = l.total ≡ sum level (slice l.start l.i (samples l.asked l.body))

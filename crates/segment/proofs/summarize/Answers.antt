@@ -1,23 +1,16 @@
--- `segment::summarize` meets its contract. Assumes nothing.
-use mathlib.Core.Path.{sym, ap, ◌∙◌}
-use lib.Ieee.{of_bits}
+-- `segment::summarize` meets its contract.
+use Rattle.std.proofs.Common.{sym, ap}
 use Rattle.reply.specs.declared.Reply.{Reply}
-use Rattle.segment.proofs.Stretch.{accepted, summed, refused}
+use Rattle.segment.proofs.Stretch.{accepted, summed_done, summed_refused}
 use Rattle.segment.proofs.summarize.Goals as goal
 
-pub returns-then-reply-ne0 : goal.returns-then-reply-ne0
-unfolding of_bits
-returns-then-reply-ne0 c =
-    let a = c.args in
-    refused a.asked a.body.now a.first.0 a.len _ c.judge_stretch-reply.ensures c.if-reply-ne0.true
+pub returns-in_err-kernel : goal.returns-in_err-kernel
+returns-in_err-kernel c = summed_refused _ _ _ _ _ _ c.from_residual.ensures.1 c.in_err-kernel.ensures.reply
 
-pub summary_of-summary-requires : goal.summary_of-summary-requires
-summary_of-summary-requires c =
+pub summary_of-requires-clause-stretch : goal.summary_of-requires-clause-stretch
+summary_of-requires-clause-stretch c =
     let a = c.args in
-    let zero = ap (λ (r : Reply). r.code) (sym c.judge_stretch-reply.ensures) ∙ c.if-reply-ne0.false in
-    ((accepted a.asked a.body.now a.first.0 a.len).0 zero).stretch
+    ((accepted a.asked a.body.now a.first.0 a.len).0 (ap (λ (r : Reply). r.code) (sym c.in_ok-kernel.ensures.reply))).stretch
 
 pub returns : goal.returns
-returns c =
-    let a = c.args in
-    summed a.asked a.body.now a.first.0 a.len _ c.judge_stretch-reply.ensures c.if-reply-ne0.false _ c.summary_of-summary.ensures
+returns c = summed_done _ _ _ _ c.in_ok-kernel.ensures.reply _ c.summary_of.ensures

@@ -1,11 +1,15 @@
 -- `segment::summary_of` meets its contract.
-use Rattle.std.proofs.Common.{◌≤◌, ◌≡◌, sym, ap, ◌∙◌, subst, arith}
+use Rattle.std.proofs.Common.{◌≤◌, ◌≡◌, ℕ, sym, ap, ◌∙◌, subst, Some, true, false, eqb, arith}
 use lib.IntN.{ℤ, nat_abs}
 use lib.Ieee.{of_bits}
 use mir.Syntax.{w64}
 use mir.Val.{SFits, to_z, of_z}
 use mir.ValLaws.{to_z-of_z}
 use borrow.Author.Tests.{eq-eqb, ne_eqb}
+use Rattle.kernel.specs.declared.Kernel.{Kernel}
+use Rattle.kernel.specs.declared.Kernel.TheVariants.{Spelling}
+use Rattle.kernel.specs.Kernel.{number_of, named_of}
+use Rattle.kernel.proofs.Number.{number_named, named_number}
 use Rattle.segment.specs.Summary.{most_sum, mean_of, summary_of}
 use Rattle.segment.proofs.Sum.{sum_small}
 use Rattle.segment.proofs.summary_of.Goals as goal
@@ -14,16 +18,24 @@ use Rattle.segment.proofs.summary_of.Goals as goal
 back : (z t : ℤ) → SFits w64 z → z ≡ t → to_z w64 (of_z w64 z) ≡ t
 back z t fits e = to_z-of_z w64 z fits ∙ e
 
-pub returns-then-asked-eq-SPELLING : goal.returns-then-asked-eq-SPELLING
+-- a kernel is the spelling kernel just where its number is 2
+spelling : (n : ℕ) (k : Kernel) → named_of n ≡ Some k → k ≡ Spelling → eqb n 2 ≡ true
+spelling n k e s = eq-eqb n 2 (number_named n k e ∙ ap number_of s)
+
+other : (n : ℕ) (k : Kernel) → named_of n ≡ Some k → (k ≡ Spelling → ⊥) → eqb n 2 ≡ false
+other n k e not = ne_eqb n 2 (λ z. not (let s : Some k ≡ Some Spelling = sym e ∙ ap named_of z ∙ named_number Spelling in cc))
+
+pub returns-in-Spelling : goal.returns-in-Spelling
 unfolding summary_of of_bits
-returns-then-asked-eq-SPELLING c = rw (eq-eqb c.args.asked.kernel 2 c.if-asked-eq-SPELLING.true)
+returns-in-Spelling c = rw (spelling _ _ c.requires.kernel c.in-Spelling.is)
 
 pub mean_of-mean-requires : goal.mean_of-mean-requires
 mean_of-mean-requires c =
     let a = c.args in
+    let s = c.requires.stretch in
     let is = back c.sum_of-sum.result _ (record { sfits = c.sum_of-sum.type_inv }) c.sum_of-sum.ensures in (
-      subst (λ (z : ℤ). nat_abs z ≤ most_sum) (sym is) (sum_small a.asked a.body.now a.first.0 a.len c.requires),
-      omega (arith, c.requires.within, c.requires.few),
+      subst (λ (z : ℤ). nat_abs z ≤ most_sum) (sym is) (sum_small a.asked a.body.now a.first.0 a.len s),
+      omega (arith, s.within, s.few),
     )
 
 pub returns : goal.returns
@@ -32,5 +44,5 @@ returns c =
     let a = c.args in
     let total = back c.sum_of-sum.result _ (record { sfits = c.sum_of-sum.type_inv }) c.sum_of-sum.ensures in
     let mean = c.mean_of-mean.ensures ∙ ap (λ (z : ℤ). mean_of z a.len) total in
-    rw (ne_eqb a.asked.kernel 2 c.if-asked-eq-SPELLING.false)
+    rw (other _ _ c.requires.kernel c.in_default.not-Spelling)
     (λ i. record { first = a.first; len = a.len; sum = total i; mean = mean i })

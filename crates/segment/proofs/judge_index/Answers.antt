@@ -1,7 +1,7 @@
--- `segment::start_code` meets its contract. Assumes nothing.
+-- `segment::judge_index` meets its contract. Assumes nothing.
 use Rattle.std.proofs.Common.{◌≤◌, ◌<◌, arith}
 use Rattle.reply.proofs.Answers.{answers}
-use Rattle.segment.proofs.start_code.Goals as goal
+use Rattle.segment.proofs.judge_index.Goals as goal
 
 pub returns-then-i-eq0 : goal.returns-then-i-eq0
 returns-then-i-eq0 c = search answers

@@ -1,9 +1,9 @@
--- `segment::stretch_code` meets its contract: a stretch that starts past the end passes it, and so does one that is longer than what is left.
+-- `segment::judge_within` meets its contract: a stretch that starts past the end passes it, and so does one that is longer than what is left.
 -- Assumes nothing.
 use Prim.Native.Nat.{◌+◌, ◌<◌, ◌≤◌}
 use native.Mathlib.Omega.{arith}
 use Rattle.reply.proofs.Answers.{answers}
-use Rattle.segment.proofs.stretch_code.Goals as goal
+use Rattle.segment.proofs.judge_within.Goals as goal
 
 pub returns-then-len-eq0 : goal.returns-then-len-eq0
 returns-then-len-eq0 c = search answers
