@@ -9,6 +9,7 @@ use mathlib.Core.Bool.{Bool, true, false, not, cond, ◌&&◌, ◌||◌, beq, tr
 use lib.IntN.{ℤ, pos}
 use lib.Dec.{T, ltb, leb, eqb, ltb→lt, lt→ltb, nltb→le, le→leb, eqb→eq, lit<, lit≤}
 use lib.Ieee.{Float, nan, inf, fin, Format, binary64, prec, emax, low, up, down, odd, units, round, sum, add, sub, mul, lt, eq, ne, is_nan, fits, whole, in_signed, to_signed}
+use Rattle.std.specs.Float.{float_is_finite}
 use lib.Ieee.Fits.{round_is, down_pos, and_i, eq→eqb}
 use lib.Ieee.Casts.{to_signed_cut}
 use lib.Ieee.Exact.{HasValue}
@@ -79,47 +80,19 @@ product_judged s m e h = go (ltb a (2 ^ 1024 * down e)) (ltb→lt a (2 ^ 1024 * 
         far_out s a (down e) (lt_of_lt_of_le (mul-lt-mul_of_pos_right (lit< tt) (down_pos e)) (o tt))
         ∙ ap judged_product (sym (product_over binary64 s m e 16 h (o tt)))
 
--- ---- whether the share is finite: v - v is a NaN where it is not, and only there
+-- ---- whether the share is finite
 
-odd_number : (d : ℕ) (s : Bool) (q k l : ℕ) → is_nan (odd d s q k l) ≡ false
-unfolding odd is_nan
-odd_number d s zero k l = refl
-odd_number d s (suc q) k l = refl
-
-units_number : (f : Format) (s : Bool) (q k : ℕ) → is_nan (units f s q k) ≡ false
-unfolding units is_nan
-units_number f s q k = go (ltb (q * 2 ^ k) (2 ^ (low f + suc (emax f))))
-  where
-    go : (b : Bool) → is_nan (cond b (odd (suc (prec f)) s q k (low f)) (inf s)) ≡ false
-    go true = odd_number (suc (prec f)) s q k (low f)
-    go false = refl
-
-round_number : (f : Format) (s : Bool) (num den : ℕ) → is_nan (round f s num den) ≡ false
-round_number f s num den = rw (round_is f s num den) (units_number f s _ _)
-
-difference_number : (s : Bool) (m : ℕ) (e : ℤ) → is_nan (sub binary64 (fin s m e) (fin s m e)) ≡ false
-unfolding sub sum
-difference_number s m e = go (beq s (not s)) (ltb a a)
-  where
-    a : ℕ
-    a = m * up e * down e
-
-    go : (p q : Bool) → is_nan (cond p (round binary64 s (a + a) (down e * down e)) (cond q (round binary64 (not s) (a - a) (down e * down e)) (round binary64 (s && ltb a a) (a - a) (down e * down e)))) ≡ false
-    go true q = round_number binary64 s (a + a) (down e * down e)
-    go false true = round_number binary64 (not s) (a - a) (down e * down e)
-    go false false = round_number binary64 (s && ltb a a) (a - a) (down e * down e)
-
-pub not_finite : (v : Float) → ne (sub binary64 v v) (sub binary64 v v) ≡ true → (Err NotFinite) ≡ judged_share v
-unfolding judged_share is_nan
+pub not_finite : (v : Float) → float_is_finite v ≡ false → Err NotFinite ≡ judged_share v
+unfolding judged_share float_is_finite
 not_finite nan t = refl
 not_finite (inf s) t = refl
-not_finite (fin s m e) t = absurd (true≢false (ap is_nan (sym (differs_from_itself (sub binary64 (fin s m e) (fin s m e)) (subst T (sym t) tt))) ∙ difference_number s m e))
+not_finite (fin s m e) t = absurd (true≢false t)
 
-pub share_judged : (v : Float) → T (fits binary64 v) → ne (sub binary64 v v) (sub binary64 v v) ≡ false → judged_share v ≡ judged_product (mul binary64 v (power 16))
-unfolding sub ne
-share_judged nan h t = absurd (true≢false t)
-share_judged (inf true) h t = absurd (true≢false t)
-share_judged (inf false) h t = absurd (true≢false t)
+pub share_judged : (v : Float) → T (fits binary64 v) → float_is_finite v ≡ true → judged_share v ≡ judged_product (mul binary64 v (power 16))
+unfolding float_is_finite
+share_judged nan h t = absurd (true≢false (sym t))
+share_judged (inf true) h t = absurd (true≢false (sym t))
+share_judged (inf false) h t = absurd (true≢false (sym t))
 share_judged (fin s m e) h t = product_judged s m e h
 
 -- ---- the range

@@ -64,9 +64,7 @@ fn judge_count(n: i64) -> Result<i64, Fault>
 fn judge_share(v: f64) -> Result<i64, Fault>
     ensures { result ≡ judged_share v }
 {
-    // v - v is a NaN where v is a NaN or an infinity, and only there.
-    let d = v - v;
-    if d != d {
+    if !v.is_finite() {
         return Err(Fault::NotFinite);
     }
     let x = v * 65536.0;
@@ -102,11 +100,7 @@ pub fn judge(s: Sample) -> Result<i64, Fault>
 fn count_of(word: u64) -> i64
     ensures { result ≡ count_of word }
 {
-    if word < 0x8000_0000_0000_0000 {
-        return word as i64;
-    }
-    let below = (0xffff_ffff_ffff_ffff - word) as i64;
-    -1 - below
+    word.cast_signed()
 }
 
 // The share of these bits. `from_bits` is undefined at a NaN's, of which all say the same.

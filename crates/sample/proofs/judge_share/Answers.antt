@@ -1,5 +1,6 @@
 -- `sample::judge_share` meets its contract. What each test tells of x, the product, is in `proofs/Product.antt`, with each number written `fin s m e`; the code's numbers stand by their bit patterns.
 use Rattle.std.proofs.Common.{◌≡◌, sym, ap, ◌∙◌, subst, true, false, Ok}
+use Rattle.std.specs.Float.{float_is_finite}
 use lib.Dec.{T}
 use lib.Ieee.{Float, binary64, mul, sub, ne, neg, of_bits, to_signed, fits}
 use lib.Ieee.Casts.{to_signed_in}
@@ -14,28 +15,28 @@ abbrev x_at : Float → Float
 x_at v = mul binary64 v (power 16)
 
 -- from the first test on, the judgement is x's
-judged : (v : Float) → fits binary64 v ≡ true → ne (sub binary64 v v) (sub binary64 v v) ≡ false → judged_share v ≡ judged_product (x_at v)
+judged : (v : Float) → fits binary64 v ≡ true → float_is_finite v ≡ true → judged_share v ≡ judged_product (x_at v)
 judged v f h = share_judged v (subst T (sym f) tt) h
 
-pub returns-then-d : goal.returns-then-d
-returns-then-d c = not_finite c.args.v c.if-d.true
+pub returns-then-not-is_finite : goal.returns-then-not-is_finite
+returns-then-not-is_finite c = not_finite c.args.v (sym c.is_finite.ensures.value ∙ c.if-not-is_finite.true)
 
 pub returns-then-x : goal.returns-then-x
 unfolding of_bits neg
-returns-then-x c = sym (judged c.args.v c.well_formed.0.1 c.if-d.false ∙ too_low (x_at c.args.v) c.if-x.true)
+returns-then-x c = sym (judged c.args.v c.well_formed.0.1 (sym c.is_finite.ensures.value ∙ c.if-not-is_finite.false) ∙ too_low (x_at c.args.v) c.if-x.true)
 
 pub returns-then-x-2 : goal.returns-then-x-2
 unfolding of_bits
-returns-then-x-2 c = sym (judged c.args.v c.well_formed.0.1 c.if-d.false ∙ too_high (x_at c.args.v) c.if-x-2.true)
+returns-then-x-2 c = sym (judged c.args.v c.well_formed.0.1 (sym c.is_finite.ensures.value ∙ c.if-not-is_finite.false) ∙ too_high (x_at c.args.v) c.if-x-2.true)
 
 pub returns-then-x-3 : goal.returns-then-x-3
 unfolding of_bits
-returns-then-x-3 c = sym (judged c.args.v c.well_formed.0.1 c.if-d.false ∙ is_zero_whole (x_at c.args.v) c.if-x-3.true)
+returns-then-x-3 c = sym (judged c.args.v c.well_formed.0.1 (sym c.is_finite.ensures.value ∙ c.if-not-is_finite.false) ∙ is_zero_whole (x_at c.args.v) c.if-x-3.true)
 
 pub returns-then-nearest-x : goal.returns-then-nearest-x
 unfolding of_bits neg
 returns-then-nearest-x c =
-    sym (judged c.args.v c.well_formed.0.1 c.if-d.false ∙ not_whole (x_at c.args.v) c.if-x.false c.if-x-2.false c.if-x-3.false c.if-nearest-x.true)
+    sym (judged c.args.v c.well_formed.0.1 (sym c.is_finite.ensures.value ∙ c.if-not-is_finite.false) ∙ not_whole (x_at c.args.v) c.if-x.false c.if-x-2.false c.if-x-3.false c.if-nearest-x.true)
 
 pub float_to_int-result : goal.float_to_int-result
 unfolding of_bits neg
@@ -45,4 +46,4 @@ pub returns : goal.returns
 unfolding of_bits neg
 returns c =
     ap Ok (to_z-of_z w64 (to_signed 63 (x_at c.args.v)) (record { sfits = to_signed_in 63 (x_at c.args.v) }))
-    ∙ sym (judged c.args.v c.well_formed.0.1 c.if-d.false ∙ (is_whole_cast (x_at c.args.v) c.if-x.false c.if-x-2.false c.if-x-3.false c.if-nearest-x.false).1)
+    ∙ sym (judged c.args.v c.well_formed.0.1 (sym c.is_finite.ensures.value ∙ c.if-not-is_finite.false) ∙ (is_whole_cast (x_at c.args.v) c.if-x.false c.if-x-2.false c.if-x-3.false c.if-nearest-x.false).1)
