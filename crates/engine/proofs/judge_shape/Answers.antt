@@ -15,5 +15,11 @@ returns-in_err-judge_room-clause-reply c =
     reason_handed _ _ _ c.from_residual-in_err-judge_room.ensures.1
     (search (answers, c.in_ok-judge_lent.ensures, c.in_ok-kernel.ensures.reply, c.in_err-judge_room.ensures))
 
+pub returns-in_err-judge_room-2-clause-reply : goal.returns-in_err-judge_room-2-clause-reply
+returns-in_err-judge_room-2-clause-reply c =
+    reason_handed _ _ _ c.from_residual-in_err-judge_room-2.ensures.1
+    (search (answers, c.in_ok-judge_lent.ensures, c.in_ok-kernel.ensures.reply, c.in_ok-judge_room.ensures, c.in_err-judge_room-2.ensures))
+
 pub returns-clause-reply : goal.returns-clause-reply
-returns-clause-reply c = search (answers, c.in_ok-judge_lent.ensures, c.in_ok-kernel.ensures.reply, c.in_ok-judge_room.ensures)
+returns-clause-reply c =
+    search (answers, c.in_ok-judge_lent.ensures, c.in_ok-kernel.ensures.reply, c.in_ok-judge_room.ensures, c.in_ok-judge_room-2.ensures)
