@@ -93,3 +93,17 @@ module _ {w : ℕ → ℕ → ℕ} {b l n m t : ℕ} {xs ys cs : List ℕ} (held
       zs ≡ fill_column start_bytes n (λ d. start_from (prices_of cs) l (rows_of n ys) d t) t m vs →
       zs ≡ fill start_bytes n m (start_at w l) (t + 1) us
   starts_more us vs zs = next start_bytes n m (start_at w l) _ t us vs zs (λ d h. start_from_lem _ w l _ d t (alike d h))
+
+  -- so the next column finds what this one found
+  pub held_more :
+      (zs ds : List ℕ) → t < n → zs ≡ fill_column cost_bytes n (λ d. cost_from (prices_of cs) l (rows_of n ys) d t) t m ys → Prices w (t + 1) ds →
+      Held w b l n m (t + 1) xs zs ds
+  held_more zs ds below e p = record {
+    some = held.some;
+    each = held.each;
+    whole = held.whole;
+    space = held.space;
+    upto = omega arith;
+    filled = costs_more zs e;
+    priced = p;
+  }

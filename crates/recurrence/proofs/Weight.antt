@@ -8,6 +8,7 @@ use mathlib.Core.List.{List, [], ◌∷◌}
 use lib.ListN.{length, get_or}
 use lib.Seq.{slice, slice-cons, length-slice}
 use Rattle.cutting.specs.Costs.{Within}
+use Rattle.cutting.specs.Limits.{most_observations}
 use Rattle.sample.specs.Level.{largest_level}
 use Rattle.kernel.specs.declared.Kernel.{Kernel}
 use Rattle.kernel.specs.Kernel.{far}
@@ -18,7 +19,7 @@ use Rattle.kernel.specs.Cost.{units_of}
 use Rattle.kernel.proofs.Slices.{sum_back, pairs_front}
 use Rattle.kernel.proofs.Limits.{sum_le}
 use Rattle.kernel.proofs.Level.{dist_le}
-use Rattle.recurrence.specs.Weight.{Levels, between, tail, Tails, total, level_cost, tail_cost, most_pair, most_each}
+use Rattle.recurrence.specs.Weight.{Levels, between, tail, Tails, total, level_cost, tail_cost, most_pair, most_tail, most_each}
 
 -- ---- lists by their indices
 -- ---- a pair
@@ -57,6 +58,16 @@ module _ (a : List ℕ) (t : ℕ) (b : t ≤ length a) where
   pub total_small : (c : ℕ) → ((s : ℕ) → s < t → get_or a s 0 ≤ c) → (m s : ℕ) → s + m ≡ t → total (slice s t a) ≤ m * c
   total_small c h zero s e = omega (arith, total_none s (omega arith))
   total_small c h (suc m) s e = omega (arith, total_more s (omega arith), h s (omega arith), total_small c h m (suc s) (omega arith))
+
+  -- a sum that goes down from t takes one number more
+  pub total_back : (s r : ℕ) → 0 < s → s ≤ t → r ≡ total (slice s t a) → r + get_or a (s - 1) 0 ≡ total (slice (s - 1) t a)
+  total_back s r p q e =
+      let next : suc (s - 1) ≡ s = omega arith in
+      omega (arith, total_more (s - 1) (omega arith), ap (λ (i : ℕ). total (slice i t a)) next)
+
+  pub tail_cost_small :
+      t ≤ most_observations → ((s : ℕ) → s < t → get_or a s 0 ≤ most_tail) → (s : ℕ) → s < t → tail_cost a s t ≤ most_each * most_observations
+  tail_cost_small few h s l = div-le_of_le-mul (t - s) (omega (arith, total_small most_tail h (t - s) s (omega arith)))
 
   -- the tails of s .. t - 1 sum to the pairs of s .. t - 1
   tails_pairs : (k : Kernel) (u : List ℕ) → t ≤ length u → Tails k u t a →

@@ -39,14 +39,12 @@ fn least(costs: &[u8], row: usize, c: &[u64; MOST_OBSERVATIONS], lo: usize, hi: 
 {
     let mut cost = table::load(costs, COST_BYTES * (row + lo), COST_BYTES) + c[lo];
     let mut start = lo;
-    let mut s = lo + 1;
-    while s < hi {
+    for s in lo + 1..hi {
         let x = table::load(costs, COST_BYTES * (row + s), COST_BYTES) + c[s];
         if x < cost {
             cost = x;
             start = s;
         }
-        s += 1;
     }
     Best { cost, start }
 }
@@ -88,15 +86,12 @@ fn column(costs: &mut [u8], starts: &mut [u8], c: &[u64; MOST_OBSERVATIONS], siz
     ensures costs_after { costs.new ≡ cost_column size costs.old c.now t }
     ensures starts_after { starts.new ≡ start_column size costs.old c.now t starts.old }
 {
-    let rows = size.dmax;
     let columns = size.n + 1;
-    let mut d = 0;
-    while d < rows {
+    for d in 0..size.dmax {
         let e = d * columns + t;
         let b = best_at(costs, c, size, d, t);
         table::store(costs, COST_BYTES * e, COST_BYTES, b.cost);
         table::store(starts, START_BYTES * e, START_BYTES, b.start as u64);
-        d += 1;
     }
 }
 
@@ -108,10 +103,8 @@ fn grow(k: Kernel, u: &[u64], a: &mut [u64], t: usize)
     ensures { Tails k u.now (t + 1) a.new }
 {
     let y = u[t];
-    let mut s = 0;
-    while s < t {
-        a[s] = a[s] + kernel::distance(k, u[s], y);
-        s += 1;
+    for s in 0..t {
+        a[s] += kernel::distance(k, u[s], y);
     }
     a[t] = 0;
 }
@@ -122,14 +115,10 @@ fn price(a: &[u64], c: &mut [u64], t: usize)
     requires tails { (s : ℕ) → s < t → get_or a.now s 0 ≤ most_tail }
     ensures { Prices (tail_cost a.now) t c.new }
 {
-    let mut s = t;
-    let mut m: u64 = 0;
     let mut r: u64 = 0;
-    while 0 < s {
-        s -= 1;
-        m += 1;
+    for s in (0..t).rev() {
         r += a[s];
-        c[s] = kernel::units(r, m);
+        c[s] = kernel::units(r, (t - s) as u64);
     }
 }
 
@@ -144,12 +133,10 @@ pub fn fill_tables(k: Kernel, u: &[u64], dmax: usize, costs: &mut [u8], starts: 
     let size = Size { n, dmax };
     let mut a = [0u64; MOST_OBSERVATIONS];
     let mut c = [0u64; MOST_OBSERVATIONS];
-    let mut t = 0;
-    while t < n {
+    for t in 0..n {
         column(costs, starts, &c, size, t);
         grow(k, u, &mut a, t);
-        t += 1;
-        price(&a, &mut c, t);
+        price(&a, &mut c, t + 1);
     }
-    column(costs, starts, &c, size, t);
+    column(costs, starts, &c, size, n);
 }
