@@ -50,7 +50,7 @@ fn least(costs: &[u8], row: usize, c: &[u64; MOST_OBSERVATIONS], lo: usize, hi: 
 }
 
 // What row d of column t is to hold: the marks where no cutting is.
-#[tactic(auto, using(cutting::proofs::Table::from_one), unfolding(cutting::specs::Table::cost_from, cutting::specs::Table::start_from))]
+#[tactic(auto, using(table::proofs::Fill::cell_below, cutting::proofs::Table::from_none, cutting::proofs::Table::from_one), unfolding(cutting::specs::Table::cost_from, cutting::specs::Table::start_from))]
 fn best_at(costs: &[u8], c: &[u64; MOST_OBSERVATIONS], size: Size, d: usize, t: usize) -> Best
     requires within { (size.n ≤ most_observations) × (size.dmax ≤ most_segments) × (t ≤ size.n) × (d < size.dmax) }
     requires room { cost_bytes * (size.dmax * (size.n + 1)) ≤ length costs.now }
@@ -80,6 +80,7 @@ fn best_at(costs: &[u8], c: &[u64; MOST_OBSERVATIONS], size: Size, d: usize, t: 
 }
 
 // Fills column t of both tables, rows 0 to dmax - 1.
+#[tactic(auto, using(crate::proofs::Entries::row_by_row))]
 fn column(costs: &mut [u8], starts: &mut [u8], c: &[u64; MOST_OBSERVATIONS], size: Size, t: usize)
     requires lent { Lent size.n size.dmax costs.old starts.old × (t ≤ size.n) }
     requires sums { Sums size costs.old c.now t }
@@ -96,6 +97,7 @@ fn column(costs: &mut [u8], starts: &mut [u8], c: &[u64; MOST_OBSERVATIONS], siz
 }
 
 // Observation t joins the tails of those before it, and starts its own.
+#[tactic(auto, using(crate::proofs::Weight::tail_room))]
 fn grow(k: Kernel, u: &[u64], a: &mut [u64], t: usize)
     requires within { (t < length u.now) × (t < length a.old) × (t < most_observations) }
     requires levels { Levels u.now }
@@ -110,6 +112,7 @@ fn grow(k: Kernel, u: &[u64], a: &mut [u64], t: usize)
 }
 
 // The cost in units of each last segment of the first t, by its start, from the tails.
+#[tactic(auto, using(crate::proofs::Weight::total_back, crate::proofs::Weight::total_room))]
 fn price(a: &[u64], c: &mut [u64], t: usize)
     requires within { (t ≤ length a.now) × (t ≤ length c.old) × (t ≤ most_observations) }
     requires tails { (s : ℕ) → s < t → get_or a.now s 0 ≤ most_tail }
@@ -123,6 +126,7 @@ fn price(a: &[u64], c: &mut [u64], t: usize)
 }
 
 // Fills both tables for every count of segments to dmax.
+#[tactic(auto, using(table::proofs::Fill::fill_none, crate::proofs::Weight::cost_small, crate::proofs::Weight::tail_small))]
 pub fn fill_tables(k: Kernel, u: &[u64], dmax: usize, costs: &mut [u8], starts: &mut [u8])
     requires lent { Lent (length u.now) dmax costs.old starts.old }
     requires levels { Levels u.now }

@@ -8,5 +8,5 @@ use Rattle.recurrence.proofs.column.Given as goal
 abbrev pub invariant-loop-d : goal.invariant-loop-d
 invariant-loop-d l = record {
   costs_so_far : l.costs ≡ fill_column cost_bytes l.size.n (cell_cost l.size l.initial.costs l.c l.t) l.t l.d l.initial.costs;
-  starts_so_far : l.starts ≡ fill_column start_bytes l.size.n (cell_start l.size l.initial.costs l.c l.t) l.t l.d l.initial.starts
+  starts_so_far : l.starts ≡ fill_column start_bytes l.size.n (cell_start l.size l.initial.costs l.c l.t) l.t l.d l.initial.starts;
 }

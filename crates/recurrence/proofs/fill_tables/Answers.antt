@@ -1,32 +1,11 @@
--- `recurrence::fill_tables` meets its contract.
-use Rattle.std.proofs.Common.{◌+◌, ◌≡◌, sym, ◌∙◌, length, arith}
-use Rattle.cutting.specs.Limits.{least_length, cost_bytes, start_bytes}
-use Rattle.table.proofs.Fill.{fill_none}
+-- `recurrence::fill_tables` meets its contract: a turn fills column t, and leaves what the next one needs.
+use Rattle.std.proofs.Common.{◌+◌, ◌≡◌, ◌∙◌, length, arith}
 use Rattle.recurrence.proofs.Entries.{sums_right, costs_more, starts_more, held_more}
-use Rattle.recurrence.proofs.Weight.{tail_costs, tail_small, cost_small}
+use Rattle.recurrence.proofs.Weight.{tail_costs}
 use Rattle.recurrence.proofs.fill_tables.Goals as goal
-
-pub loop-t-init : goal.loop-t-init
-loop-t-init c = record {
-  held = record {
-    some = omega arith;
-    each = cost_small c.args.k c.args.u.now c.requires.levels least_length (omega arith);
-    whole = omega arith;
-    space = omega arith;
-    upto = omega arith;
-    filled = sym (fill_none cost_bytes _ _ _ _);
-    priced = λ s h. omega arith;
-  };
-  started = sym (fill_none start_bytes _ _ _ _);
-  tails = λ s h. omega arith;
-}
 
 pub column-requires-clause-sums : goal.column-requires-clause-sums
 column-requires-clause-sums c = sums_right c.loop-t.invariant.held
-
-pub price-requires-clause-tails : goal.price-requires-clause-tails
-price-requires-clause-tails c =
-    λ s p. omega (arith, c.grow.ensures s p, tail_small c.args.k c.args.u.now c.requires.levels s (c.loop-t.t + 1) p (omega arith))
 
 pub loop-t-preserved : goal.loop-t-preserved
 loop-t-preserved c =

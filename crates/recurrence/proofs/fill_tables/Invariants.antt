@@ -11,5 +11,5 @@ abbrev pub invariant-loop-t : goal.invariant-loop-t
 invariant-loop-t l = record {
   held : Held (level_cost l.k l.u) most_each least_length l.n l.dmax l.t l.initial.costs l.costs l.c;
   started : l.starts ≡ fill start_bytes l.n l.dmax (start_at (level_cost l.k l.u) least_length) l.t l.initial.starts;
-  tails : Tails l.k l.u l.t l.a
+  tails : Tails l.k l.u l.t l.a;
 }

@@ -2,11 +2,11 @@
 use Prim.Native.Nat.{ℕ, ◌≤◌, ◌<◌, ◌+◌}
 use mathlib.Core.Path.{◌≡◌}
 use lib.ListN.{get_or}
-use Rattle.recurrence.specs.Weight.{Tails, tail}
+use Rattle.recurrence.specs.Weight.{tail}
 use Rattle.recurrence.proofs.grow.Given as goal
 
 abbrev pub invariant-loop-s : goal.invariant-loop-s
 invariant-loop-s l = record {
   grown : (j : ℕ) → j < l.s → get_or l.a j 0 ≡ tail l.k l.u j (l.t + 1);
-  old : (j : ℕ) → l.s ≤ j → j < l.t → get_or l.a j 0 ≡ tail l.k l.u j l.t
+  old : (j : ℕ) → l.s ≤ j → j < l.t → get_or l.a j 0 ≡ tail l.k l.u j l.t;
 }

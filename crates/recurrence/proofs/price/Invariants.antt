@@ -9,5 +9,5 @@ use Rattle.recurrence.proofs.price.Given as goal
 abbrev pub invariant-loop-s : goal.invariant-loop-s
 invariant-loop-s l = record {
   summed : l.r ≡ total (slice l.s l.t l.a);
-  priced : (j : ℕ) → l.s ≤ j → j < l.t → get_or l.c j 0 ≡ tail_cost l.a j l.t
+  priced : (j : ℕ) → l.s ≤ j → j < l.t → get_or l.c j 0 ≡ tail_cost l.a j l.t;
 }
