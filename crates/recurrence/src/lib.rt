@@ -112,7 +112,7 @@ fn grow(k: Kernel, u: &[u64], a: &mut [u64], t: usize)
 }
 
 // The cost in units of each last segment of the first t, by its start, from the tails.
-#[tactic(auto, using(crate::proofs::Weight::total_back, crate::proofs::Weight::total_room))]
+#[tactic(auto, using(crate::proofs::Weight::total_back, crate::proofs::Weight::total_room, crate::proofs::Weight::units_room))]
 fn price(a: &[u64], c: &mut [u64], t: usize)
     requires within { (t ≤ length a.now) × (t ≤ length c.old) × (t ≤ most_observations) }
     requires tails { (s : ℕ) → s < t → get_or a.now s 0 ≤ most_tail }
