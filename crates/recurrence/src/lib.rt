@@ -50,6 +50,7 @@ fn least(costs: &[u8], row: usize, c: &[u64; MOST_OBSERVATIONS], lo: usize, hi: 
 }
 
 // What row d of column t is to hold: the marks where no cutting is.
+// The costs stay out of a struct with the rest, since `column` writes them between two calls.
 #[tactic(auto, using(table::proofs::Fill::cell_below, cutting::proofs::Table::from_none, cutting::proofs::Table::from_one), unfolding(cutting::specs::Table::cost_from, cutting::specs::Table::start_from))]
 fn best_at(costs: &[u8], c: &[u64; MOST_OBSERVATIONS], size: Size, d: usize, t: usize) -> Best
     requires within { (size.n ≤ most_observations) × (size.dmax ≤ most_segments) × (t ≤ size.n) × (d < size.dmax) }
