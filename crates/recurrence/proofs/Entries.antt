@@ -8,7 +8,7 @@ use mathlib.Core.Path.{◌≡◌, refl, sym, ◌∙◌, ap}
 use mathlib.Core.List.{List}
 use lib.ListN.{length}
 use Rattle.table.specs.Fill.{fill, fill_column}
-use Rattle.table.proofs.Fill.{column_other, column_ext, fill_more, fill_here}
+use Rattle.table.proofs.Fill.{column_none, column_more, column_other, column_ext, fill_more, fill_here}
 use Rattle.cutting.specs.Costs.{Within}
 use Rattle.cutting.specs.Limits.{cost_bytes, start_bytes}
 use Rattle.cutting.specs.Recurrence.{room, least}
@@ -34,6 +34,9 @@ module _ (n : ℕ) (f : ℕ → ℕ) (t m : ℕ) (xs ys : List ℕ) (upto : t �
 
     pub start_kept : x ≡ start_from w l (rows_of n ys) k t → x ≡ start_from w l (rows_of n xs) k t
     start_kept e = e ∙ start_alike w w l _ _ k t kept
+
+-- by which `recurrence::column` fills its rows, one a turn
+pub ruleset row_by_row = (column_none, column_more, row_kept, cost_kept, start_kept)
 
 -- A table vs whose columns below t are filled from us by the rule f, and its column t by g, is filled one column further, where g is f at t.
 next :
@@ -93,3 +96,17 @@ module _ {w : ℕ → ℕ → ℕ} {b l n m t : ℕ} {xs ys cs : List ℕ} (held
       zs ≡ fill_column start_bytes n (λ d. start_from (prices_of cs) l (rows_of n ys) d t) t m vs →
       zs ≡ fill start_bytes n m (start_at w l) (t + 1) us
   starts_more us vs zs = next start_bytes n m (start_at w l) _ t us vs zs (λ d h. start_from_lem _ w l _ d t (alike d h))
+
+  -- so the next column finds what this one found
+  pub held_more :
+      (zs ds : List ℕ) → t < n → zs ≡ fill_column cost_bytes n (λ d. cost_from (prices_of cs) l (rows_of n ys) d t) t m ys → Prices w (t + 1) ds →
+      Held w b l n m (t + 1) xs zs ds
+  held_more zs ds below e p = record {
+    some = held.some;
+    each = held.each;
+    whole = held.whole;
+    space = held.space;
+    upto = omega arith;
+    filled = costs_more zs e;
+    priced = p;
+  }

@@ -8,6 +8,7 @@ use mathlib.Core.List.{List, [], ◌∷◌}
 use lib.ListN.{length, get_or}
 use lib.Seq.{slice, slice-cons, length-slice}
 use Rattle.cutting.specs.Costs.{Within}
+use Rattle.cutting.specs.Limits.{most_observations}
 use Rattle.sample.specs.Level.{largest_level}
 use Rattle.kernel.specs.declared.Kernel.{Kernel}
 use Rattle.kernel.specs.Kernel.{far}
@@ -18,9 +19,8 @@ use Rattle.kernel.specs.Cost.{units_of}
 use Rattle.kernel.proofs.Slices.{sum_back, pairs_front}
 use Rattle.kernel.proofs.Limits.{sum_le}
 use Rattle.kernel.proofs.Level.{dist_le}
-use Rattle.recurrence.specs.Weight.{Levels, between, tail, Tails, total, level_cost, tail_cost, most_pair, most_each}
+use Rattle.recurrence.specs.Weight.{Levels, between, tail, Tails, total, level_cost, tail_cost, most_pair, most_tail, most_each}
 
--- ---- lists by their indices
 -- ---- a pair
 abbrev Low : ℕ → Type 0
 Low x = x ≤ largest_level
@@ -46,6 +46,10 @@ module _ (k : Kernel) (u : List ℕ) where
         length-slice (suc s) t u b,
       )
 
+  -- nor with one observation more
+  pub tail_room : (s t : ℕ) → Levels u → s < t → t < length u → tail k u s t + between k (get_or u s 0) (get_or u t 0) ≤ most_pair * (t + 1 - s)
+  tail_room s t low h b = omega (arith, tail_more s t h b, tail_small low s (t + 1) (omega arith) (omega arith))
+
 -- ---- the sum of the numbers from s on
 module _ (a : List ℕ) (t : ℕ) (b : t ≤ length a) where
   pub total_none : (s : ℕ) → s ≡ t → total (slice s t a) ≡ 0
@@ -57,6 +61,19 @@ module _ (a : List ℕ) (t : ℕ) (b : t ≤ length a) where
   pub total_small : (c : ℕ) → ((s : ℕ) → s < t → get_or a s 0 ≤ c) → (m s : ℕ) → s + m ≡ t → total (slice s t a) ≤ m * c
   total_small c h zero s e = omega (arith, total_none s (omega arith))
   total_small c h (suc m) s e = omega (arith, total_more s (omega arith), h s (omega arith), total_small c h m (suc s) (omega arith))
+
+  -- a sum that goes down from t: with one number more, how large it gets, and the cost from it
+  pub total_back : (s : ℕ) → 0 < s → s ≤ t → total (slice s t a) + get_or a (s - 1) 0 ≡ total (slice (s - 1) t a)
+  total_back s p q =
+      let next : suc (s - 1) ≡ s = omega arith in
+      omega (arith, total_more (s - 1) (omega arith), ap (λ (i : ℕ). total (slice i t a)) next)
+
+  module _ (few : t ≤ most_observations) (tails : (s : ℕ) → s < t → get_or a s 0 ≤ most_tail) (s : ℕ) (p : 0 < s) (q : s ≤ t) where
+    pub total_room : total (slice s t a) + get_or a (s - 1) 0 ≤ most_tail * (t - (s - 1))
+    total_room = omega (arith, total_back s p q, total_small most_tail tails (t - (s - 1)) (s - 1) (omega arith))
+
+    pub units_room : units_of (total (slice s t a) + get_or a (s - 1) 0) (t - (s - 1)) ≤ most_each * most_observations
+    units_room = div-le_of_le-mul (t - (s - 1)) (omega (arith, total_room))
 
   -- the tails of s .. t - 1 sum to the pairs of s .. t - 1
   tails_pairs : (k : Kernel) (u : List ℕ) → t ≤ length u → Tails k u t a →

@@ -39,20 +39,19 @@ fn least(costs: &[u8], row: usize, c: &[u64; MOST_OBSERVATIONS], lo: usize, hi: 
 {
     let mut cost = table::load(costs, COST_BYTES * (row + lo), COST_BYTES) + c[lo];
     let mut start = lo;
-    let mut s = lo + 1;
-    while s < hi {
+    for s in lo + 1..hi {
         let x = table::load(costs, COST_BYTES * (row + s), COST_BYTES) + c[s];
         if x < cost {
             cost = x;
             start = s;
         }
-        s += 1;
     }
     Best { cost, start }
 }
 
 // What row d of column t is to hold: the marks where no cutting is.
-#[tactic(auto, using(cutting::proofs::Table::from_one), unfolding(cutting::specs::Table::cost_from, cutting::specs::Table::start_from))]
+// The costs stay out of a struct with the rest, since `column` writes them between two calls.
+#[tactic(auto, using(table::proofs::Fill::cell_below, cutting::proofs::Table::from_none, cutting::proofs::Table::from_one), unfolding(cutting::specs::Table::cost_from, cutting::specs::Table::start_from))]
 fn best_at(costs: &[u8], c: &[u64; MOST_OBSERVATIONS], size: Size, d: usize, t: usize) -> Best
     requires within { (size.n ≤ most_observations) × (size.dmax ≤ most_segments) × (t ≤ size.n) × (d < size.dmax) }
     requires room { cost_bytes * (size.dmax * (size.n + 1)) ≤ length costs.now }
@@ -82,25 +81,24 @@ fn best_at(costs: &[u8], c: &[u64; MOST_OBSERVATIONS], size: Size, d: usize, t: 
 }
 
 // Fills column t of both tables, rows 0 to dmax - 1.
+#[tactic(auto, using(crate::proofs::Entries::row_by_row))]
 fn column(costs: &mut [u8], starts: &mut [u8], c: &[u64; MOST_OBSERVATIONS], size: Size, t: usize)
     requires lent { Lent size.n size.dmax costs.old starts.old × (t ≤ size.n) }
     requires sums { Sums size costs.old c.now t }
     ensures costs_after { costs.new ≡ cost_column size costs.old c.now t }
     ensures starts_after { starts.new ≡ start_column size costs.old c.now t starts.old }
 {
-    let rows = size.dmax;
     let columns = size.n + 1;
-    let mut d = 0;
-    while d < rows {
+    for d in 0..size.dmax {
         let e = d * columns + t;
         let b = best_at(costs, c, size, d, t);
         table::store(costs, COST_BYTES * e, COST_BYTES, b.cost);
         table::store(starts, START_BYTES * e, START_BYTES, b.start as u64);
-        d += 1;
     }
 }
 
 // Observation t joins the tails of those before it, and starts its own.
+#[tactic(auto, using(crate::proofs::Weight::tail_room))]
 fn grow(k: Kernel, u: &[u64], a: &mut [u64], t: usize)
     requires within { (t < length u.now) × (t < length a.old) × (t < most_observations) }
     requires levels { Levels u.now }
@@ -108,32 +106,28 @@ fn grow(k: Kernel, u: &[u64], a: &mut [u64], t: usize)
     ensures { Tails k u.now (t + 1) a.new }
 {
     let y = u[t];
-    let mut s = 0;
-    while s < t {
-        a[s] = a[s] + kernel::distance(k, u[s], y);
-        s += 1;
+    for s in 0..t {
+        a[s] += kernel::distance(k, u[s], y);
     }
     a[t] = 0;
 }
 
 // The cost in units of each last segment of the first t, by its start, from the tails.
+#[tactic(auto, using(crate::proofs::Weight::total_back, crate::proofs::Weight::total_room, crate::proofs::Weight::units_room))]
 fn price(a: &[u64], c: &mut [u64], t: usize)
     requires within { (t ≤ length a.now) × (t ≤ length c.old) × (t ≤ most_observations) }
     requires tails { (s : ℕ) → s < t → get_or a.now s 0 ≤ most_tail }
     ensures { Prices (tail_cost a.now) t c.new }
 {
-    let mut s = t;
-    let mut m: u64 = 0;
     let mut r: u64 = 0;
-    while 0 < s {
-        s -= 1;
-        m += 1;
+    for s in (0..t).rev() {
         r += a[s];
-        c[s] = kernel::units(r, m);
+        c[s] = kernel::units(r, (t - s) as u64);
     }
 }
 
 // Fills both tables for every count of segments to dmax.
+#[tactic(auto, using(table::proofs::Fill::fill_none, crate::proofs::Weight::cost_small, crate::proofs::Weight::tail_small))]
 pub fn fill_tables(k: Kernel, u: &[u64], dmax: usize, costs: &mut [u8], starts: &mut [u8])
     requires lent { Lent (length u.now) dmax costs.old starts.old }
     requires levels { Levels u.now }
@@ -144,12 +138,10 @@ pub fn fill_tables(k: Kernel, u: &[u64], dmax: usize, costs: &mut [u8], starts: 
     let size = Size { n, dmax };
     let mut a = [0u64; MOST_OBSERVATIONS];
     let mut c = [0u64; MOST_OBSERVATIONS];
-    let mut t = 0;
-    while t < n {
+    for t in 0..n {
         column(costs, starts, &c, size, t);
         grow(k, u, &mut a, t);
-        t += 1;
-        price(&a, &mut c, t);
+        price(&a, &mut c, t + 1);
     }
-    column(costs, starts, &c, size, t);
+    column(costs, starts, &c, size, n);
 }

@@ -1,16 +1,12 @@
--- `recurrence::grow` meets its contract. The loop's invariant: the tails below s have sample t, and those from s on have it not yet. Assumes nothing.
-use Prim.Native.Nat.{ℕ, ◌≤◌, ◌<◌, ◌-◌, ◌+◌}
+-- `recurrence::grow` meets its contract. The loop's invariant: the tails below s have observation t, and those from s on have it not yet.
+use Prim.Native.Nat.{ℕ, ◌≤◌, ◌<◌, ◌+◌}
 use mathlib.Core.Path.{◌≡◌}
-use lib.ListN.{length, get_or}
+use lib.ListN.{get_or}
 use Rattle.recurrence.specs.Weight.{tail}
 use Rattle.recurrence.proofs.grow.Given as goal
 
 abbrev pub invariant-loop-s : goal.invariant-loop-s
-invariant-loop-s l =
-    (l.s ≤ l.t)
-    × (length l.a ≡ length l.initial.a)
-    × ((j : ℕ) → j < l.s → get_or l.a j 0 ≡ tail l.k l.u j (l.t + 1))
-    × ((j : ℕ) → l.s ≤ j → j < l.t → get_or l.a j 0 ≡ tail l.k l.u j l.t)
-
-abbrev pub decreases-loop-s : goal.decreases-loop-s
-decreases-loop-s l = l.t - l.s
+invariant-loop-s l = record {
+  grown : (j : ℕ) → j < l.s → get_or l.a j 0 ≡ tail l.k l.u j (l.t + 1);
+  old : (j : ℕ) → l.s ≤ j → j < l.t → get_or l.a j 0 ≡ tail l.k l.u j l.t;
+}

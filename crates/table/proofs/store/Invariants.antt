@@ -1,12 +1,8 @@
 -- `table::store` meets its contract. The loop's invariant: to put what is left of v from here on gives what is to be.
-use Prim.Native.Nat.{◌≤◌, ◌-◌, ◌+◌}
+use Prim.Native.Nat.{◌-◌, ◌+◌}
 use mathlib.Core.Path.{◌≡◌}
-use lib.ListN.{length}
 use Rattle.table.specs.Num.{put}
 use Rattle.table.proofs.store.Given as goal
 
 abbrev pub invariant-loop-i : goal.invariant-loop-i
-invariant-loop-i l = (l.i ≤ l.k) × (length l.t ≡ length l.initial.t) × (put (l.k - l.i) l.t (l.at + l.i) l.w ≡ put l.k l.initial.t l.at l.v)
-
-abbrev pub decreases-loop-i : goal.decreases-loop-i
-decreases-loop-i l = l.k - l.i
+invariant-loop-i l = put (l.k - l.i) l.t (l.at + l.i) l.w ≡ put l.k l.initial.t l.at l.v
