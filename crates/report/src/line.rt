@@ -1,9 +1,8 @@
 // The lines, piece by piece.
-ghost use Rattle.std.specs.Prelude.{◌≡◌, ◌+◌, ◌≤◌, ◌<◌, length};
-ghost use Rattle.std.proofs.Math.Seq.{slice};
+ghost use Rattle.std.specs.Prelude.{◌≡◌, ◌+◌, ◌*◌, ◌^◌, ◌≤◌, ◌<◌, length};
 ghost use Rattle.cutting.specs.Limits.{most_segments};
 ghost use Rattle.text.specs.Text.{Grown};
-ghost use Rattle.report.specs.Limits.{farthest, reply_length, head_length, file_line_length, cut_length, cuts_length, line_length};
+ghost use Rattle.report.specs.Limits.{farthest, reply_length, head_length, file_line_length, cut_length, line_length};
 ghost use Rattle.report.specs.Lines.{reply_text, head_text, file_text, pair_text, cuts_text, line_text};
 
 use record::{Day, Index};
@@ -55,7 +54,7 @@ pub fn put_refused(text: &mut Text, r: Reply)
 
 // One cut: a space, the segment's first index, a colon and its change date.
 fn put_cut(text: &mut Text, index: Index, date: Day)
-    requires { text.old.end < farthest }
+    requires { text.old.end + cut_length < 2 ^ 32 }
     ensures put { Grown text.old (pair_text index.0 date.0) text.new }
     ensures upper_bound { text.new.end ≤ text.old.end + cut_length }
 {
@@ -65,14 +64,14 @@ fn put_cut(text: &mut Text, index: Index, date: Day)
     text.number(date.0 as u64);
 }
 
-// The cuts of a line: those of all segments but the first.
+// The cuts of a line, by the first index of each segment but the first.
 #[tactic(auto, using(text::proofs::Pieces::grown_nothing))]
-fn put_cuts(text: &mut Text, body: &[u8], starts: &[u64], d: usize)
-    requires { (text.old.end + cuts_length < farthest) × (1 ≤ d) × (d ≤ most_segments) × (most_segments ≤ length starts.now) }
-    ensures put { Grown text.old (cuts_text body.now (slice 1 d starts.now)) text.new }
-    ensures upper_bound { text.new.end ≤ text.old.end + cuts_length }
+fn put_cuts(text: &mut Text, body: &[u8], starts: &[u64])
+    requires { text.old.end + cut_length * length starts.now < 2 ^ 32 }
+    ensures put { Grown text.old (cuts_text body.now starts.now) text.new }
+    ensures upper_bound { text.new.end ≤ text.old.end + cut_length * length starts.now }
 {
-    for start in &starts[1..d] {
+    for start in starts {
         let s = Index(*start as usize);
         let date = segment::date_at(body, s);
         put_cut(text, s, date);
@@ -88,6 +87,6 @@ pub fn put_line(text: &mut Text, body: &[u8], line: Line)
     text.number(line.d as u64);
     text.byte(b' ');
     text.number(line.cost);
-    put_cuts(text, body, &line.starts, line.d);
+    put_cuts(text, body, &line.starts[1..line.d]);
     text.byte(b'\n');
 }
