@@ -9,7 +9,7 @@ use text::Text;
 pub struct TooShort;
 
 // Lays a text over the front of a lent buffer that has room for it, and answers how many bytes it has.
-#[tactic(auto, using(crate::proofs::Buffer::text_length), unfolding(crate::specs::Written::written_of, crate::specs::Written::out_left))]
+#[tactic(auto, unfolding(crate::specs::Written::written_of, crate::specs::Written::out_left))]
 pub fn hand_over(text: &Text, out: &mut [u8]) -> Result<usize, TooShort>
     requires { text.now.end ≤ length text.now.room.now }
     ensures value { result ≡ written_of (take text.now.end text.now.room.now) (length out.old) }

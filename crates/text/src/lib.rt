@@ -1,5 +1,5 @@
 // Text in a lent buffer: bytes, words and decimal numbers, one behind the other. What passes the buffer's end is counted and not written.
-// Its methods say which bytes they put, which `Display` and `write!` promise to no proof.
+// Methods with contracts put it, since `Display` and `write!` promise nothing that a proof can use.
 
 #![tactic(auto)]
 
