@@ -61,7 +61,7 @@ fn line_at(asked: Asked, body: &[u8], costs: &[u8], starts: &[u8], k: usize) -> 
 }
 
 // All lines of a term, with tables lent for its solve.
-#[tactic(auto, using(crate::proofs::Solved::refused_lines, text::proofs::Pieces::retell, text::proofs::Pieces::grown_nothing), unfolding(crate::specs::Tables::table_lines))]
+#[tactic(auto, using(crate::proofs::Solved::refused_lines, text::proofs::Pieces::retell))]
 fn put_lines(text: &mut Text, term: Term, body: &[u8], costs: &mut [u8], starts: &mut [u8])
     requires { (text.old.end + lines_length < farthest) × (length costs.old ≡ cost_room) × (length starts.old ≡ start_room) }
     ensures { Grown text.old (lines_of term.number term.asked body.now) text.new }

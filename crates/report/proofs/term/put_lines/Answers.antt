@@ -5,7 +5,7 @@ use mathlib.Core.List.{◌++◌}
 use native.Mathlib.Omega.{arith}
 use lib.ListN.{length}
 use Rattle.engine.proofs.Accepted.{costs_space}
-use Rattle.text.proofs.Pieces.{grown, retell}
+use Rattle.text.proofs.Pieces.{grown_nothing, grown, retell}
 use Rattle.report.specs.declared.line.Line.{Line}
 use Rattle.report.specs.Lines.{head_text}
 use Rattle.report.specs.Tables.{table_lines}
@@ -14,26 +14,27 @@ use Rattle.report.proofs.Tables.{answer_length, lines_more}
 use Rattle.report.proofs.Solved as term
 use Rattle.report.proofs.term.put_lines.Goals as goal
 
+pub loop-k-init : goal.loop-k-init
+unfolding table_lines
+loop-k-init c =
+    let s = c.args in
+    record {
+      accepted = term.accepted s.term.number s.term.asked s.body.now s.costs.now s.starts.now c.requires.1 c.requires.2
+          c.solve-r.result c.solve-r.ensures.reply (omega arith);
+      put = grown_nothing _;
+      upper_bound = omega arith;
+    }
+
 pub line_at-l-requires : goal.line_at-l-requires
 line_at-l-requires c =
-    let s = c.args in
-    let a = term.accepted s.term.number s.term.asked s.body.now s.costs.now s.starts.now c.requires.1 c.requires.2
-    c.solve-r.result c.solve-r.ensures.reply (omega arith) in
-    record {
-      row = c.loop-k-test.true;
-      few_rows = a.fit.segments.few_segments;
-      few_columns = a.fit.count.few_days;
-      space = omega (arith, costs_space a);
-    }
+    let a = c.loop-k.invariant.accepted in
+    record { row = c.loop-k-test.true; few_rows = a.fit.segments.few_segments; few_columns = a.fit.count.few_days; space = omega (arith, costs_space a) }
 
 pub put_line-requires : goal.put_line-requires
 put_line-requires c =
-    let s = c.args in
-    let a = term.accepted s.term.number s.term.asked s.body.now s.costs.now s.starts.now c.requires.1 c.requires.2
-    c.solve-r.result c.solve-r.ensures.reply (omega arith) in
-    let few = a.fit.segments.few_segments in
+    let few = c.loop-k.invariant.accepted.fit.segments.few_segments in
     let d_is : c.line_at-l.result.d ≡ c.loop-k.k + 1 = ap (λ (x : Line). x.d) c.line_at-l.ensures in (
-      omega (arith, head_length_lem s.term.number c.solve-r.result),
+      omega (arith, head_length_lem c.args.term.number c.solve-r.result),
       omega arith,
       omega arith,
       ap (λ (x : Line). length x.starts) c.line_at-l.ensures ∙ answer_length _ _ _,
@@ -41,6 +42,7 @@ put_line-requires c =
 
 pub loop-k-preserved : goal.loop-k-preserved
 loop-k-preserved c = record {
+  accepted = c.loop-k.invariant.accepted;
   put = retell (lines_more c.args.term.asked c.args.body.now _ _ c.loop-k.k _ c.line_at-l.ensures) (grown c.loop-k.invariant.put c.put_line.ensures.put);
   upper_bound = omega arith;
 }

@@ -1,5 +1,6 @@
--- `report::term::put_lines` meets its contract. The loop's invariant: the lines for the counts 1 to k are put behind the first. Assumes nothing.
-use Rattle.std.proofs.Common.{◌+◌, ◌*◌, ◌≤◌}
+-- `report::term::put_lines` meets its contract. The loop's invariant: the record is accepted, and the lines for the counts 1 to k are put behind the first. Assumes nothing.
+use Rattle.std.proofs.Common.{◌+◌, ◌*◌, ◌≤◌, length}
+use Rattle.engine.specs.Accepted.{Accepted}
 use Rattle.text.specs.Text.{Grown}
 use Rattle.report.specs.Limits.{line_length}
 use Rattle.report.specs.Tables.{table_lines}
@@ -7,6 +8,7 @@ use Rattle.report.proofs.term.put_lines.Given as goal
 
 abbrev pub invariant-loop-k : goal.invariant-loop-k
 invariant-loop-k l = record {
+  accepted : Accepted l.asked l.body (length l.fn.costs) (length l.fn.starts);
   put : Grown l.initial.text (table_lines l.asked l.body l.costs l.starts l.k) l.text;
   upper_bound : l.text.end ≤ l.initial.text.end + line_length * l.k;
 }
