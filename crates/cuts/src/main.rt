@@ -7,23 +7,18 @@ ghost use Rattle.std.specs.Prelude.{◌≡◌, ◌<◌, ◌≤◌, length};
 ghost use Rattle.file.specs.Contents.{count_in};
 ghost use Rattle.file.specs.Tries.{read_reply};
 
-use report::Written;
+use report::TooShort;
 use std::io::Read;
 
 // One byte more than the longest file has.
 const INPUT_ROOM: usize = 65537;
 
 // Writes out a text that stands at the front of a buffer, and answers whether all of it went.
-fn print_text(rt: &impl Print, w: Written, text: &[u8]) -> bool {
-    match w {
-        Written::Bytes(n) => {
-            if text.len() < n {
-                return false;
-            }
-            rt.write_all(&text[..n]).is_ok()
-        }
-        Written::TooShort => false,
-    }
+fn print_text(rt: &impl Print, w: Result<usize, TooShort>, text: &[u8]) -> bool {
+    let Ok(n) = w else {
+        return false;
+    };
+    n <= text.len() && rt.write_all(&text[..n]).is_ok()
 }
 
 // The lines of entry i.

@@ -6,11 +6,11 @@ use lib.ListN.{length, length-append}
 use lib.Seq.{slice, length-slice}
 use Rattle.cutting.specs.Limits.{most_segments}
 use Rattle.reply.specs.declared.Reply.{Reply}
-use Rattle.text.specs.Text.{Put, decimal}
+use Rattle.text.specs.Text.{decimal}
 use Rattle.text.proofs.Pieces.{decimal_length}
 use Rattle.segment.specs.Date.{date_in}
 use Rattle.report.specs.declared.line.Line.{Line}
-use Rattle.report.specs.Limits.{reply_length, head_length, file_line_length, cut_length, cuts_length, line_length}
+use Rattle.report.specs.Limits.{reply_length, head_length, file_line_length, cut_length, line_length}
 use Rattle.report.specs.Lines.{code_word, place_word, term_word, file_word, at_word, reply_text, head_text, file_text, cut_text, cuts_text, line_text}
 
 -- two texts, one behind the other
@@ -46,12 +46,6 @@ pub cuts_length_lem : (body c : List ℕ) → length (cuts_text body c) ≤ cut_
 cuts_length_lem body [] = omega arith
 cuts_length_lem body (s ∷ c) =
     omega (arith, both (cut_text body s) (cuts_text body c) cut_length (cut_length * length c) (cut_length_lem body s) (cuts_length_lem body c))
-
--- where the cuts of the segments 1 to i - 1 end
-pub cuts_end : (body starts : List ℕ) (i : ℕ) {before after : List ℕ} {at next : ℕ} → i ≤ most_segments → most_segments ≤ length starts →
-    Put before at (cuts_text body (slice 1 i starts)) after next → next ≤ at + cuts_length
-cuts_end body starts i h k put =
-    omega (arith, put.end, cuts_length_lem body (slice 1 i starts), length-slice 1 i starts (omega (arith, h, k)), h)
 
 pub line_length_lem : (body : List ℕ) (l : Line) → l.d ≤ most_segments → most_segments ≤ length l.starts → length (line_text body l) ≤ line_length
 line_length_lem body l h k =

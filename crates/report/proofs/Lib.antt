@@ -1,5 +1,4 @@
 -- Laws that the functions' proofs and the promises cite. Another crate cites those of `Promises`.
-mod Buffer
 mod Lengths
 mod Pieces
 mod Tables

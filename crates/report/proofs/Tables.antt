@@ -2,7 +2,7 @@
 use Prim.Native.Nat.{ℕ, zero, suc, ◌+◌, ◌-◌, ◌≤◌, ◌<◌}
 use mathlib.Core.Path.{◌≡◌, refl, sym, ap, ap₂, ◌∙◌}
 use mathlib.Core.Bool.{Bool, true, false, cond}
-use mathlib.Core.List.{List, [], ◌++◌}
+use mathlib.Core.List.{List, ◌++◌}
 use native.Mathlib.Numerals.{add-one}
 use native.Mathlib.Omega.{arith}
 use lib.Dec.{eqb}
@@ -45,10 +45,6 @@ answer_length sought starts room =
     (met_length (start_in starts sought.n) (sought.d - 1) sought.n)
 
 -- ---- one line more
-pub lines_none : (asked : Asked) (body costs starts : List ℕ) → table_lines asked body costs starts 0 ≡ []
-unfolding table_lines
-lines_none asked body costs starts = refl
-
 pub lines_more :
     (asked : Asked) (body costs starts : List ℕ) (k : ℕ) (l : Line) → l ≡ line_at asked body costs starts k →
     table_lines asked body costs starts k ++ line_text body l ≡ table_lines asked body costs starts (k + 1)

@@ -1,21 +1,20 @@
 -- A text written into a lent buffer.
-use Rattle.std.specs.Prelude.{ℕ, cond, List, ltb, length}
+use Rattle.std.specs.Prelude.{ℕ, cond, List, ltb, length, Result, Ok, Err}
 use Rattle.buffer.specs.Laid.{laid}
-use Rattle.report.specs.declared.written.Written.{Written}
-use Rattle.report.specs.declared.written.Written.TheVariants.{Bytes, TooShort}
+use Rattle.report.specs.declared.written.TooShort.{TooShort}
 
 -- the number of each case, 0 where the text is written and 7 where the lent buffer is too short, and how many bytes are written
-abbrev pub written_number : Written → ℕ
-written_number (Bytes n) = 0
-written_number TooShort = 7
+abbrev pub written_number : Result ℕ TooShort → ℕ
+written_number (Ok n) = 0
+written_number (Err _) = 7
 
-abbrev pub written_bytes : Written → ℕ
-written_bytes (Bytes n) = n
-written_bytes TooShort = 0
+abbrev pub written_bytes : Result ℕ TooShort → ℕ
+written_bytes (Ok n) = n
+written_bytes (Err _) = 0
 
 -- its length, or that the buffer is too short
-unfoldable pub written_of : List ℕ → ℕ → Written
-written_of text room = cond (ltb room (length text)) TooShort (Bytes (length text))
+unfoldable pub written_of : List ℕ → ℕ → Result ℕ TooShort
+written_of text room = cond (ltb room (length text)) (Err (record {})) (Ok (length text))
 
 -- the buffer on return: the text laid over its front; where it is too short, what it had
 unfoldable pub out_left : List ℕ → List ℕ → List ℕ

@@ -7,4 +7,4 @@ mod term;
 mod written;
 
 pub use term::{LINE_ROOM, TEXT_ROOM, file_line, lines, term_lines};
-pub use written::Written;
+pub use written::TooShort;

@@ -1,19 +1,13 @@
 // The lines, piece by piece.
-ghost use Rattle.std.specs.Prelude.{◌≡◌, ◌+◌, ◌≤◌, ◌<◌, length};
-ghost use Rattle.std.proofs.Math.Seq.{slice};
+ghost use Rattle.std.specs.Prelude.{◌≡◌, ◌+◌, ◌*◌, ◌^◌, ◌≤◌, ◌<◌, length};
 ghost use Rattle.cutting.specs.Limits.{most_segments};
-ghost use Rattle.text.specs.Text.{Put};
-ghost use Rattle.report.specs.Limits.{farthest, reply_length, cuts_length, line_length};
+ghost use Rattle.text.specs.Text.{Grown};
+ghost use Rattle.report.specs.Limits.{farthest, reply_length, head_length, file_line_length, cut_length, line_length};
 ghost use Rattle.report.specs.Lines.{reply_text, head_text, file_text, pair_text, cuts_text, line_text};
 
 use record::{Day, Index};
 use reply::Reply;
-
-const LINE_END: u8 = 10;
-
-const SPACE: u8 = 32;
-
-const COLON: u8 = 58;
+use text::Text;
 
 // What a line says: a segment count, the cost in units, and the first index of each segment, unused places 0.
 #[derive(Clone, Copy)]
@@ -24,77 +18,75 @@ pub struct Line {
 }
 
 // The code and the place of a reply.
-fn put_reply(out: &mut [u8], at: usize, r: Reply) -> usize
-    requires { at < farthest }
-    ensures put { Put out.old at (reply_text r) out.new result }
-    ensures upper_bound { result ≤ at + reply_length }
+fn put_reply(text: &mut Text, r: Reply)
+    requires { text.old.end < farthest }
+    ensures put { Grown text.old (reply_text r) text.new }
+    ensures upper_bound { text.new.end ≤ text.old.end + reply_length }
 {
-    let code = text::put_word(out, at, b" code ");
-    let place = text::put_number(out, code, r.code);
-    let number = text::put_word(out, place, b" place ");
-    text::put_number(out, number, r.place)
+    text.word(b" code ");
+    text.number(r.code);
+    text.word(b" place ");
+    text.number(r.place);
 }
 
 // The first line of a term.
-pub fn put_head(out: &mut [u8], term: u64, r: Reply) -> usize
-    ensures { Put out.old 0 (head_text term r) out.new result }
+pub fn put_head(text: &mut Text, term: u64, r: Reply)
+    requires { text.old.end + head_length < farthest }
+    ensures { Grown text.old (head_text term r) text.new }
 {
-    let number = text::put_word(out, 0, b"term ");
-    let code = text::put_number(out, number, term);
-    let end = put_reply(out, code, r);
-    text::put_byte(out, end, LINE_END)
+    text.word(b"term ");
+    text.number(term);
+    put_reply(text, r);
+    text.byte(b'\n');
 }
 
 // The line of a refused file: code, place and position.
-pub fn put_refused(out: &mut [u8], r: Reply) -> usize
-    ensures { Put out.old 0 (file_text r) out.new result }
+pub fn put_refused(text: &mut Text, r: Reply)
+    requires { text.old.end + file_line_length < farthest }
+    ensures { Grown text.old (file_text r) text.new }
 {
-    let code = text::put_word(out, 0, b"file");
-    let at = put_reply(out, code, r);
-    let number = text::put_word(out, at, b" at ");
-    let end = text::put_number(out, number, r.position);
-    text::put_byte(out, end, LINE_END)
+    text.word(b"file");
+    put_reply(text, r);
+    text.word(b" at ");
+    text.number(r.position);
+    text.byte(b'\n');
 }
 
 // One cut: a space, the segment's first index, a colon and its change date.
-fn put_cut(out: &mut [u8], at: usize, index: Index, date: Day) -> usize
-    requires { at < farthest }
-    ensures { Put out.old at (pair_text index.0 date.0) out.new result }
+fn put_cut(text: &mut Text, index: Index, date: Day)
+    requires { text.old.end + cut_length < 2 ^ 32 }
+    ensures put { Grown text.old (pair_text index.0 date.0) text.new }
+    ensures upper_bound { text.new.end ≤ text.old.end + cut_length }
 {
-    let number = text::put_byte(out, at, SPACE);
-    let colon = text::put_number(out, number, index.0 as u64);
-    let day = text::put_byte(out, colon, COLON);
-    text::put_number(out, day, date.0 as u64)
+    text.byte(b' ');
+    text.number(index.0 as u64);
+    text.byte(b':');
+    text.number(date.0 as u64);
 }
 
-// The cuts of a line: those of all segments but the first.
-fn put_cuts(out: &mut [u8], at: usize, body: &[u8], starts: &[u64], d: usize) -> usize
-    requires { (at + cuts_length < farthest) × (1 ≤ d) × (d ≤ most_segments) × (most_segments ≤ length starts.now) }
-    ensures put { Put out.old at (cuts_text body.now (slice 1 d starts.now)) out.new result }
-    ensures upper_bound { result ≤ at + cuts_length }
+// The cuts of a line, by the first index of each segment but the first.
+#[tactic(auto, using(text::proofs::Pieces::grown_nothing))]
+fn put_cuts(text: &mut Text, body: &[u8], starts: &[u64])
+    requires { text.old.end + cut_length * length starts.now < 2 ^ 32 }
+    ensures put { Grown text.old (cuts_text body.now starts.now) text.new }
+    ensures upper_bound { text.new.end ≤ text.old.end + cut_length * length starts.now }
 {
-    let mut next = at;
-    let mut i = 1;
-    while i < d {
-        let s = Index(starts[i] as usize);
+    for start in starts {
+        let s = Index(*start as usize);
         let date = segment::date_at(body, s);
-        next = put_cut(out, next, s, date);
-        i += 1;
+        put_cut(text, s, date);
     }
-    next
 }
 
 // One line: the segment count, the cost in units, and the cuts.
-pub fn put_line(out: &mut [u8], at: usize, body: &[u8], line: Line) -> usize
-    requires { (at + line_length < farthest) × (1 ≤ line.d) × (line.d ≤ most_segments) × (length line.starts ≡ most_segments) }
-    ensures put { Put out.old at (line_text body.now line) out.new result }
-    ensures upper_bound { result ≤ at + line_length }
+pub fn put_line(text: &mut Text, body: &[u8], line: Line)
+    requires { (text.old.end + line_length < farthest) × (1 ≤ line.d) × (line.d ≤ most_segments) × (length line.starts ≡ most_segments) }
+    ensures put { Grown text.old (line_text body.now line) text.new }
+    ensures upper_bound { text.new.end ≤ text.old.end + line_length }
 {
-    let d = line.d;
-    let starts = line.starts;
-    let space = text::put_number(out, at, d as u64);
-    let number = text::put_byte(out, space, SPACE);
-    let cuts = text::put_number(out, number, line.cost);
-    let end = put_cuts(out, cuts, body, &starts, d);
-    text::put_byte(out, end, LINE_END)
+    text.number(line.d as u64);
+    text.byte(b' ');
+    text.number(line.cost);
+    put_cuts(text, body, &line.starts[1..line.d]);
+    text.byte(b'\n');
 }

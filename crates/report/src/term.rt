@@ -1,19 +1,20 @@
 // The lines of one term, and that of a refused file.
-ghost use Rattle.std.specs.Prelude.{◌≡◌, ◌<◌, length};
-ghost use Rattle.text.specs.Text.{Put};
+ghost use Rattle.std.specs.Prelude.{◌≡◌, ◌+◌, ◌<◌, length};
+ghost use Rattle.text.specs.Text.{Grown};
 ghost use Rattle.file.specs.Contents.{count_in};
 ghost use Rattle.file.specs.Tries.{read_reply};
 ghost use Rattle.file.specs.Items.{item_at};
-ghost use Rattle.report.specs.Limits.{cost_room, start_room};
+ghost use Rattle.report.specs.Limits.{farthest, lines_length, cost_room, start_room};
 ghost use Rattle.report.specs.Lines.{file_text, lines_of, item_text};
 ghost use Rattle.report.specs.Tables.{Read, line_at};
 ghost use Rattle.report.specs.Written.{written_of, out_left};
 
 use crate::line::Line;
-use crate::written::Written;
+use crate::written::TooShort;
 use crate::{line, written};
 use record::Asked;
 use reply::Reply;
+use text::Text;
 use walk::Sought;
 
 // The largest tables that a record can need: 12 rows of 401 entries, of 8 and 2 bytes.
@@ -61,43 +62,44 @@ fn line_at(asked: Asked, body: &[u8], costs: &[u8], starts: &[u8], k: usize) -> 
 
 // All lines of a term, with tables lent for its solve.
 #[tactic(auto, using(crate::proofs::Solved::refused_lines, text::proofs::Pieces::retell))]
-fn put_lines(out: &mut [u8], term: Term, body: &[u8], costs: &mut [u8], starts: &mut [u8]) -> usize
-    requires { (length costs.old ≡ cost_room) × (length starts.old ≡ start_room) }
-    ensures { Put out.old 0 (lines_of term.number term.asked body.now) out.new result }
+fn put_lines(text: &mut Text, term: Term, body: &[u8], costs: &mut [u8], starts: &mut [u8])
+    requires { (text.old.end + lines_length < farthest) × (length costs.old ≡ cost_room) × (length starts.old ≡ start_room) }
+    ensures { Grown text.old (lines_of term.number term.asked body.now) text.new }
 {
     let asked = term.asked;
     let r = engine::solve(asked, body, costs, starts);
-    let mut next = line::put_head(out, term.number, r);
+    line::put_head(text, term.number, r);
     if r.code != 0 {
-        return next;
+        return;
     }
-    let mut k = 0;
-    while k < asked.dmax {
+    for k in 0..asked.dmax {
         let l = line_at(asked, body, costs, starts, k);
-        next = line::put_line(out, next, body, l);
-        k += 1;
+        line::put_line(text, body, l);
     }
-    next
 }
 
 // Writes the lines of a term: its number, what is asked of its record, and the record's body.
-pub fn lines(term: u64, asked: Asked, body: &[u8], out: &mut [u8]) -> Written
+pub fn lines(term: u64, asked: Asked, body: &[u8], out: &mut [u8]) -> Result<usize, TooShort>
     ensures value { result ≡ written_of (lines_of term asked body.now) (length out.old) }
     ensures out_after { out.new ≡ out_left (lines_of term asked body.now) out.old }
 {
     let mut costs = [0u8; COST_ROOM];
     let mut starts = [0u8; START_ROOM];
-    let mut text = [0u8; TEXT_ROOM];
+    let mut room = [0u8; TEXT_ROOM];
+    let mut text = Text {
+        room: &mut room,
+        end: 0,
+    };
     let titled = Term {
         number: term,
         asked,
     };
-    let len = put_lines(&mut text, titled, body, &mut costs, &mut starts);
-    written::hand_over(&text, len, out)
+    put_lines(&mut text, titled, body, &mut costs, &mut starts);
+    written::hand_over(&text, out)
 }
 
 // Writes the lines of record i of an accepted file.
-pub fn term_lines(file: &[u8], i: usize, out: &mut [u8]) -> Written
+pub fn term_lines(file: &[u8], i: usize, out: &mut [u8]) -> Result<usize, TooShort>
     requires { ((read_reply file.now).code ≡ 0) × (i < count_in file.now) }
     ensures value { result ≡ written_of (item_text (item_at file.now i)) (length out.old) }
     ensures out_after { out.new ≡ out_left (item_text (item_at file.now i)) out.old }
@@ -111,11 +113,15 @@ pub fn term_lines(file: &[u8], i: usize, out: &mut [u8]) -> Written
 }
 
 // Writes the one line of a refused file.
-pub fn file_line(r: Reply, out: &mut [u8]) -> Written
+pub fn file_line(r: Reply, out: &mut [u8]) -> Result<usize, TooShort>
     ensures value { result ≡ written_of (file_text r) (length out.old) }
     ensures out_after { out.new ≡ out_left (file_text r) out.old }
 {
-    let mut text = [0u8; LINE_ROOM];
-    let len = line::put_refused(&mut text, r);
-    written::hand_over(&text, len, out)
+    let mut room = [0u8; LINE_ROOM];
+    let mut text = Text {
+        room: &mut room,
+        end: 0,
+    };
+    line::put_refused(&mut text, r);
+    written::hand_over(&text, out)
 }

@@ -1,39 +1,32 @@
 -- Pieces of text: one behind the other, the digits of a number, and how long they are. Assumes nothing.
 use Prim.Native.Nat.{ℕ, zero, suc, ◌+◌, ◌-◌, ◌/◌, ◌%◌, ◌^◌, ◌≤◌, ◌<◌}
-use mathlib.Core.Path.{◌≡◌, refl, sym, ap, subst, ◌∙◌}
+use mathlib.Core.Path.{◌≡◌, refl, ap, subst, ◌∙◌}
 use mathlib.Core.List.{List, [], ◌∷◌, ◌++◌}
 use native.Mathlib.Nat.{div-lt_iff_lt-mul, pow-suc}
 use native.Mathlib.Decide.{dec_lt}
 use native.Mathlib.Omega.{arith}
-use lib.ListN.{length, set, length-append, take}
-use lib.Seq.{set_out, take_at}
+use lib.ListN.{length, length-append, take}
+use lib.Seq.{take_at}
 use borrow.Author.Tests.{lt-ltb, le-ltb}
 use Rattle.buffer.proofs.Laid.{length_laid, laid_next, laid_is}
-use Rattle.text.specs.Text.{digits, decimal, Put}
+use Rattle.text.specs.declared.Text.{Text}
+use Rattle.text.specs.Text.{digits, decimal, Grown}
 
-pub put_nothing : (l : List ℕ) (at : ℕ) → Put l at [] l at
-put_nothing l at = record { buffer = refl; end = omega arith }
+-- no text, one text behind another, and the same text in other words
+pub grown_nothing : (x : Text) → Grown x [] x
+grown_nothing x = record { same_room = refl; put = record { buffer = refl; end = omega arith } }
 
--- a piece behind a piece
-pub then : {l m o x y : List ℕ} {at next last : ℕ} → Put l at x m next → Put m next y o last → Put l at (x ++ y) o last
-then {l} {m} {o} {x} {y} {at} {next} {last} p q = record {
-  buffer = q.buffer ∙ rw (p.buffer, p.end) (laid_next l at (at + length x) x y refl);
-  end = omega (arith, p.end, q.end, length-append x y);
+pub grown : {x y z : Text} {s t : List ℕ} → Grown x s y → Grown y t z → Grown x (s ++ t) z
+grown {x} {y} {z} {s} {t} g h = record {
+  same_room = h.same_room ∙ g.same_room;
+  put = record {
+    buffer = h.put.buffer ∙ rw (g.put.buffer, g.put.end) (laid_next x.room.now x.end (x.end + length s) s t refl);
+    end = omega (arith, g.put.end, h.put.end, length-append s t);
+  };
 }
 
--- a byte, in the buffer or past its end
-pub byte_in : (l : List ℕ) (at b : ℕ) → Put l at (b ∷ []) (set l at b) (at + 1)
-byte_in l at b = record { buffer = refl; end = refl }
-
-pub byte_past : (l : List ℕ) (at b : ℕ) → length l ≤ at → Put l at (b ∷ []) l (at + 1)
-byte_past l at b h = record { buffer = sym (set_out l at b h); end = refl }
-
--- the same text in other words
-pub retell : {l m x y : List ℕ} {at next : ℕ} → x ≡ y → Put l at x m next → Put l at y m next
-retell {l} {m} {x} {y} {at} {next} e p = subst (λ (z : List ℕ). Put l at z m next) e p
-
-pub put_length : {l m x : List ℕ} {at next : ℕ} → Put l at x m next → length m ≡ length l
-put_length {l} {m} {x} {at} p = ap length p.buffer ∙ length_laid l at x
+pub retell : {x y : Text} {s t : List ℕ} → s ≡ t → Grown x s y → Grown x t y
+retell {x} {y} e g = subst (λ (u : List ℕ). Grown x u y) e g
 
 -- ---- digits
 pub one_digit : (f n : ℕ) → 1 ≤ f → n < 10 → ((48 + n) ∷ []) ≡ digits f n
@@ -67,6 +60,10 @@ pub decimal_length : (n : ℕ) → length (decimal n) ≤ 20
 decimal_length n = digits_length 20 n
 
 -- ---- the text at the front of a buffer that has room for it
-pub front : {l m text : List ℕ} {next : ℕ} → Put l 0 text m next → length text ≤ length l → take next m ≡ text
-front {l} {m} {text} {next} p h =
-    rw (p.buffer, laid_is l 0 text (omega arith)) (take_at text _ next (omega (arith, p.end)))
+pub front : {x y : Text} {text : List ℕ} → Grown x text y → x.end ≡ 0 → length text ≤ length x.room.now →
+    (y.end ≤ length y.room.now) × (take y.end y.room.now ≡ text)
+front {x} {y} {text} g z h =
+    let long : length y.room.now ≡ length x.room.now = ap length g.put.buffer ∙ length_laid x.room.now x.end text in (
+      omega (arith, g.put.end),
+      rw (g.put.buffer, z, laid_is x.room.now 0 text (omega arith)) (take_at text _ y.end (omega (arith, g.put.end))),
+    )

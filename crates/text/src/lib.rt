@@ -1,54 +1,60 @@
 // Text in a lent buffer: bytes, words and decimal numbers, one behind the other. What passes the buffer's end is counted and not written.
+// Methods with contracts put it, since `Display` and `write!` promise nothing that a proof can use.
 
 #![tactic(auto)]
 
 ghost use Rattle.std.specs.Prelude.{[], ◌∷◌, ◌+◌, ◌^◌, ◌≤◌, ◌<◌, length};
-ghost use Rattle.text.specs.Text.{Put, digits, decimal};
+ghost use Rattle.text.specs.Text.{Grown, digits, decimal};
 
-// One byte, at `at`; the answer is the place behind it.
-pub fn put_byte(out: &mut [u8], at: usize, b: u8) -> usize
-    requires { at < 2 ^ 32 }
-    ensures { Put out.old at (b ∷ []) out.new result }
-{
-    if at < out.len() {
-        out[at] = b;
-        return at + 1;
-    }
-    at + 1
+// A text that grows in a lent buffer, and where it ends.
+#[derive(Drop)]
+pub struct Text<'a> {
+    pub room: &'a mut [u8],
+    pub end: usize,
 }
 
-// The bytes of s.
-pub fn put_word(out: &mut [u8], at: usize, s: &[u8]) -> usize
-    requires { at + length s.now < 2 ^ 32 }
-    ensures { Put out.old at s.now out.new result }
-{
-    let mut next = at;
-    let mut i = 0;
-    while i < s.len() {
-        next = put_byte(out, next, s[i]);
-        i += 1;
+impl Text<'_> {
+    // One byte.
+    pub fn byte(&mut self, b: u8)
+        requires { self.old.end < 2 ^ 32 }
+        ensures { Grown self.old (b ∷ []) self.new }
+    {
+        if self.end < self.room.len() {
+            self.room[self.end] = b;
+        }
+        self.end += 1;
     }
-    next
-}
 
-// The decimal digits of n, at most f of them.
-#[tactic(auto, using(crate::proofs::Pieces::one_digit))]
-fn put_digits(out: &mut [u8], at: usize, n: u64, f: usize) -> usize
-    requires { (1 ≤ f) × (f ≤ 20) × (n < 10 ^ f) × (at + f < 2 ^ 32) }
-    ensures { Put out.old at (digits f n) out.new result }
-{
-    if n < 10 {
-        return put_byte(out, at, 48 + n as u8);
+    // The bytes of s.
+    pub fn word(&mut self, s: &[u8])
+        requires { self.old.end + length s.now < 2 ^ 32 }
+        ensures { Grown self.old s.now self.new }
+    {
+        for b in s {
+            self.byte(*b);
+        }
     }
-    let next = put_digits(out, at, n / 10, f - 1);
-    put_byte(out, next, 48 + (n % 10) as u8)
-}
 
-// The number n in decimal.
-pub fn put_number(out: &mut [u8], at: usize, n: u64) -> usize
-    requires { at + 20 < 2 ^ 32 }
-    ensures put { Put out.old at (decimal n) out.new result }
-    ensures upper_bound { result ≤ at + 20 }
-{
-    put_digits(out, at, n, 20)
+    // The decimal digits of n, at most f of them.
+    #[tactic(auto, using(crate::proofs::Pieces::one_digit))]
+    fn digits(&mut self, n: u64, f: usize)
+        requires { (1 ≤ f) × (f ≤ 20) × (n < 10 ^ f) × (self.old.end + f < 2 ^ 32) }
+        ensures { Grown self.old (digits f n) self.new }
+    {
+        if n < 10 {
+            self.byte(b'0' + n as u8);
+            return;
+        }
+        self.digits(n / 10, f - 1);
+        self.byte(b'0' + (n % 10) as u8);
+    }
+
+    // The number n in decimal.
+    pub fn number(&mut self, n: u64)
+        requires { self.old.end + 20 < 2 ^ 32 }
+        ensures put { Grown self.old (decimal n) self.new }
+        ensures upper_bound { self.new.end ≤ self.old.end + 20 }
+    {
+        self.digits(n, 20);
+    }
 }

@@ -1,8 +1,7 @@
 -- `report::line::put_head` meets its contract: one piece behind the other. Assumes nothing.
-use Rattle.text.proofs.Pieces.{then}
+use Rattle.text.proofs.Pieces.{grown}
 use Rattle.report.proofs.line.put_head.Goals as goal
 
 pub returns : goal.returns
 returns c =
-    then c.put_word-number.ensures
-    (then c.put_number-code.ensures.put (then c.put_reply-end.ensures.put c.put_byte.ensures))
+    grown c.word.ensures (grown c.number.ensures.put (grown c.put_reply.ensures.put c.byte.ensures))

@@ -1,27 +1,16 @@
 -- `report::term::lines` meets its contract: the text fits its own buffer, and is handed over. Assumes nothing.
-use Prim.Native.Nat.{ℕ}
-use mathlib.Core.Path.{ap, ◌∙◌}
-use mathlib.Core.List.{List}
-use native.Mathlib.Omega.{arith}
-use lib.ListN.{length}
-use Rattle.text.proofs.Pieces.{front, put_length}
-use Rattle.report.specs.Written.{written_of, out_left}
+use Rattle.std.proofs.Common.{refl, arith}
+use Rattle.text.proofs.Pieces.{front}
 use Rattle.report.proofs.Solved.{lines_length_lem}
 use Rattle.report.proofs.term.lines.Goals as goal
 
 pub hand_over-requires : goal.hand_over-requires
-hand_over-requires c =
-    let a = c.args in
-    omega (arith, c.put_lines-len.ensures.end, put_length c.put_lines-len.ensures, lines_length_lem a.asked a.body.now a.term)
+hand_over-requires c = (front c.put_lines.ensures refl (omega (arith, lines_length_lem c.args.asked c.args.body.now c.args.term))).0
 
 pub returns-clause-value : goal.returns-clause-value
 returns-clause-value c =
-    let a = c.args in
-    let short = lines_length_lem a.asked a.body.now a.term in
-    c.hand_over.ensures.value ∙ ap (λ (t : List ℕ). written_of t (length a.out.now)) (front c.put_lines-len.ensures (omega arith))
+    rw (front c.put_lines.ensures refl (omega (arith, lines_length_lem c.args.asked c.args.body.now c.args.term))).1 at c.hand_over.ensures.value
 
 pub returns-clause-out_after : goal.returns-clause-out_after
 returns-clause-out_after c =
-    let a = c.args in
-    let short = lines_length_lem a.asked a.body.now a.term in
-    c.hand_over.ensures.out_after ∙ ap (λ (t : List ℕ). out_left t a.out.now) (front c.put_lines-len.ensures (omega arith))
+    rw (front c.put_lines.ensures refl (omega (arith, lines_length_lem c.args.asked c.args.body.now c.args.term))).1 at c.hand_over.ensures.out_after

@@ -1,65 +1,62 @@
--- `report::term::put_lines` meets its contract. The loop's invariant: the lines for the counts 1 to k are put behind the first. Assumes nothing.
+-- `report::term::put_lines` meets its contract: each line stands behind the others, and all of them are the term's. Assumes nothing.
 use Prim.Native.Nat.{◌+◌}
-use mathlib.Core.Path.{◌≡◌, sym, ap, ap₂, ◌∙◌}
+use mathlib.Core.Path.{◌≡◌, ap, ap₂, ◌∙◌}
 use mathlib.Core.List.{◌++◌}
 use native.Mathlib.Omega.{arith}
 use lib.ListN.{length}
 use Rattle.engine.proofs.Accepted.{costs_space}
-use Rattle.text.proofs.Pieces.{put_nothing, then, retell}
+use Rattle.text.proofs.Pieces.{grown_nothing, grown, retell}
 use Rattle.report.specs.declared.line.Line.{Line}
 use Rattle.report.specs.Lines.{head_text}
 use Rattle.report.specs.Tables.{table_lines}
 use Rattle.report.proofs.Lengths.{head_length_lem}
-use Rattle.report.proofs.Tables.{answer_length, lines_none, lines_more}
+use Rattle.report.proofs.Tables.{answer_length, lines_more}
 use Rattle.report.proofs.Solved as term
 use Rattle.report.proofs.term.put_lines.Goals as goal
 
 pub loop-k-init : goal.loop-k-init
-loop-k-init c = (omega arith, omega arith, retell (sym (lines_none _ _ _ _)) (put_nothing _ _))
+unfolding table_lines
+loop-k-init c =
+    let s = c.args in
+    record {
+      accepted = term.accepted s.term.number s.term.asked s.body.now s.costs.now s.starts.now c.requires.1 c.requires.2
+          c.solve-r.result c.solve-r.ensures.reply (omega arith);
+      put = grown_nothing _;
+      upper_bound = omega arith;
+    }
 
 pub line_at-l-requires : goal.line_at-l-requires
 line_at-l-requires c =
-    let s = c.args in
-    let a = term.accepted s.term.number s.term.asked s.body.now s.costs.now s.starts.now c.requires.0 c.requires.1
-    c.solve-r.result c.solve-r.ensures.reply (omega arith) in
-    record {
-      row = c.loop-k-test.true;
-      few_rows = a.fit.segments.few_segments;
-      few_columns = a.fit.count.few_days;
-      space = omega (arith, costs_space a);
-    }
+    let a = c.loop-k.invariant.accepted in
+    record { row = c.loop-k-test.true; few_rows = a.fit.segments.few_segments; few_columns = a.fit.count.few_days; space = omega (arith, costs_space a) }
 
-pub put_line-next-requires : goal.put_line-next-requires
-put_line-next-requires c =
-    let s = c.args in
-    let a = term.accepted s.term.number s.term.asked s.body.now s.costs.now s.starts.now c.requires.0 c.requires.1
-    c.solve-r.result c.solve-r.ensures.reply (omega arith) in
-    let few = a.fit.segments.few_segments in
+pub put_line-requires : goal.put_line-requires
+put_line-requires c =
+    let few = c.loop-k.invariant.accepted.fit.segments.few_segments in
     let d_is : c.line_at-l.result.d ≡ c.loop-k.k + 1 = ap (λ (x : Line). x.d) c.line_at-l.ensures in (
-      omega (arith, c.loop-k.invariant.1, c.put_head-next.ensures.end, head_length_lem s.term.number c.solve-r.result),
+      omega (arith, head_length_lem c.args.term.number c.solve-r.result),
       omega arith,
       omega arith,
       ap (λ (x : Line). length x.starts) c.line_at-l.ensures ∙ answer_length _ _ _,
     )
 
 pub loop-k-preserved : goal.loop-k-preserved
-loop-k-preserved c =
-    let a = c.args in (
-      omega arith,
-      omega (arith, c.loop-k.invariant.1, c.put_line-next.ensures.upper_bound),
-      retell (lines_more a.term.asked a.body.now _ _ c.loop-k.k _ c.line_at-l.ensures) (then c.loop-k.invariant.2 c.put_line-next.ensures.put),
-    )
+loop-k-preserved c = record {
+  accepted = c.loop-k.invariant.accepted;
+  put = retell (lines_more c.args.term.asked c.args.body.now _ _ c.loop-k.k _ c.line_at-l.ensures) (grown c.loop-k.invariant.put c.put_line.ensures.put);
+  upper_bound = omega arith;
+}
 
 pub returns : goal.returns
 returns c =
     let a = c.args in
     let asked = a.term.asked in
     let body = a.body.now in
-    let all : c.loop-k.k ≡ asked.dmax = omega (arith, c.loop-k.invariant.0) in
+    let all : c.loop-k.k ≡ asked.dmax = omega arith in
     let t = c.solve-r.ensures in
     retell
     (ap (head_text a.term.number c.solve-r.result ++◌)
     (ap (table_lines asked body _ _) all ∙ ap₂ (λ x y. table_lines asked body x y asked.dmax) t.costs_after t.starts_after)
-    ∙ term.accepted_lines a.term.number asked body a.costs.now a.starts.now c.requires.0 c.requires.1
+    ∙ term.accepted_lines a.term.number asked body a.costs.now a.starts.now c.requires.1 c.requires.2
     c.solve-r.result c.solve-r.ensures.reply (omega arith))
-    (then c.put_head-next.ensures c.loop-k.invariant.2)
+    (grown c.put_head.ensures c.loop-k.invariant.put)

@@ -1,7 +1,0 @@
--- `text::put_number` meets its contract: a number has at most 20 digits.
-use Rattle.std.proofs.Common.{arith}
-use Rattle.text.proofs.Pieces.{decimal_length}
-use Rattle.text.proofs.put_number.Goals as goal
-
-pub returns-clause-upper_bound : goal.returns-clause-upper_bound
-returns-clause-upper_bound c = omega (arith, c.put_digits.ensures.end, decimal_length c.args.n)
