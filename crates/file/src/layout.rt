@@ -9,7 +9,7 @@ use crate::limits;
 use record::Asked;
 
 // A layout: the widths of the fields that not every layout has, 0 where there is no such field.
-#[derive(Clone, Copy)]
+#[derive(Clone, Copy, Debug, PartialEq, Eq)]
 pub(crate) struct Widths {
     pub offset: usize,
 }
@@ -55,24 +55,22 @@ pub(crate) fn number(s: &[u8], at: usize, k: usize) -> u64
 }
 
 // The entry at p.
+#[tactic(auto, unfolding(crate::specs::Layout::entry_at))]
 pub(crate) fn entry_at(s: &[u8], p: usize) -> Entry
     requires { to_offset p ≤ length s.now }
     ensures { (result ≡ entry_at s.now p) × Fits result }
 {
-    let to_kernel = p + limits::TERM_BYTES;
-    let to_kind = to_kernel + limits::KERNEL_BYTES;
-    let to_dmax = to_kind + limits::KIND_BYTES;
-    let to_n = to_dmax + limits::DMAX_BYTES;
     let term = number(s, p, limits::TERM_BYTES);
-    let kernel = number(s, to_kernel, limits::KERNEL_BYTES);
-    let kind = number(s, to_kind, limits::KIND_BYTES);
-    let dmax = number(s, to_dmax, limits::DMAX_BYTES) as usize;
-    let n = number(s, to_n, limits::N_BYTES) as usize;
+    let kernel = number(s, p + limits::KERNEL_AT, limits::KERNEL_BYTES);
+    let kind = number(s, p + limits::KIND_AT, limits::KIND_BYTES);
+    let dmax = number(s, p + limits::DMAX_AT, limits::DMAX_BYTES) as usize;
+    let n = number(s, p + limits::N_AT, limits::N_BYTES) as usize;
     let asked = Asked { kernel, kind, dmax };
     Entry { term, asked, n }
 }
 
 // The offset of the entry at p; one that is not there is where the body is due.
+#[tactic(auto, using(crate::proofs::Codec::field_none, crate::proofs::Codec::offset_some))]
 pub(crate) fn offset_at(s: &[u8], p: usize, w: Widths, due: usize) -> usize
     requires { (p + width_of w ≤ length s.now) × Narrow w }
     ensures { result ≡ offset_at w s.now p due }
@@ -80,10 +78,11 @@ pub(crate) fn offset_at(s: &[u8], p: usize, w: Widths, due: usize) -> usize
     if w.offset == 0 {
         return due;
     }
-    number(s, p + limits::LENT_BYTES, w.offset) as usize
+    number(s, p + limits::OFFSET_AT, w.offset) as usize
 }
 
 // How many bytes the entry's body has.
+#[tactic(auto, unfolding(crate::specs::Layout::size_of))]
 pub(crate) fn size_of(e: Entry) -> usize
     requires { Fits e }
     ensures { (result ≡ size_of e) × (result < size_limit) }
@@ -96,16 +95,11 @@ pub(crate) fn put_entry(out: &mut [u8], p: usize, w: Widths, e: Entry, at: usize
     requires { p + width_of w ≤ length out.old }
     ensures { out.new ≡ laid out.old p (encode w e at) }
 {
-    let to_kernel = p + limits::TERM_BYTES;
-    let to_kind = to_kernel + limits::KERNEL_BYTES;
-    let to_dmax = to_kind + limits::KIND_BYTES;
-    let to_n = to_dmax + limits::DMAX_BYTES;
-    let to_offset = to_n + limits::N_BYTES;
     let asked = e.asked;
     table::store(out, p, limits::TERM_BYTES, e.term);
-    table::store(out, to_kernel, limits::KERNEL_BYTES, asked.kernel);
-    table::store(out, to_kind, limits::KIND_BYTES, asked.kind);
-    table::store(out, to_dmax, limits::DMAX_BYTES, asked.dmax as u64);
-    table::store(out, to_n, limits::N_BYTES, e.n as u64);
-    table::store(out, to_offset, w.offset, at as u64);
+    table::store(out, p + limits::KERNEL_AT, limits::KERNEL_BYTES, asked.kernel);
+    table::store(out, p + limits::KIND_AT, limits::KIND_BYTES, asked.kind);
+    table::store(out, p + limits::DMAX_AT, limits::DMAX_BYTES, asked.dmax as u64);
+    table::store(out, p + limits::N_AT, limits::N_BYTES, e.n as u64);
+    table::store(out, p + limits::OFFSET_AT, w.offset, at as u64);
 }

@@ -2,7 +2,6 @@
 use native.Mathlib.Omega.{arith}
 use Rattle.file.proofs.Writing.{put_count, put_room, put_roomy, put_file_lem}
 use Rattle.file.proofs.Accepted.{write_iff}
-use Rattle.file.proofs.Replies.{write_listed}
 use Rattle.file.proofs.writer.put_file.Goals as goal
 
 pub bodies_at-start-requires : goal.bodies_at-start-requires
@@ -16,7 +15,7 @@ store-requires c =
 pub put_contents-requires : goal.put_contents-requires
 put_contents-requires c =
     let T = (write_iff c.args.entries.now c.args.bodies.now _).0 c.requires in
-    put_roomy _ _ _ T _ c.lent_in-c.ensures _ c.bodies_at-start.ensures _ (omega arith) (write_listed _ c.args.bodies.now 0 _ c.lent_in-c.ensures)
+    put_roomy _ _ _ T _ c.lent_in-c.ensures _ c.bodies_at-start.ensures _ (omega arith)
 
 pub lay-requires : goal.lay-requires
 lay-requires c =
