@@ -35,8 +35,7 @@ pub(crate) fn bodies_at(count: usize) -> usize
     requires { count ≤ most_count }
     ensures { result ≡ bodies_at count }
 {
-    let w = layout::in_file();
-    limits::COUNT_BYTES + layout::width(w) * count
+    limits::COUNT_BYTES + Widths::in_file().width() * count
 }
 
 // 21: how many records there are.
@@ -56,7 +55,7 @@ impl Contents {
         requires { Near self i }
         ensures { result ≡ place_in self i }
     {
-        self.from + layout::width(self.widths) * i
+        self.from + self.widths.width() * i
     }
 
     // Where its offset field begins.
@@ -98,7 +97,7 @@ impl Contents {
         if offset != due.at {
             return Err(Reason::BodyMisplaced.at_byte(i as u64, self.offset_field_in(i) as u64));
         }
-        if self.limit - due.at < layout::size_of(e) {
+        if self.limit - due.at < e.size_of() {
             return Err(Reason::BodyPastEnd.at_byte(i as u64, self.limit as u64));
         }
         Ok(())
@@ -120,7 +119,7 @@ impl Contents {
             self.judge_entry(e, offset, due, i)?;
             due = Due {
                 floor: e.term + 1,
-                at: due.at + layout::size_of(e),
+                at: due.at + e.size_of(),
             };
         }
         Ok(due.at)

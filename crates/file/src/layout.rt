@@ -22,31 +22,45 @@ pub struct Entry {
     pub n: usize,
 }
 
-// The widths of a file's entries.
-pub(crate) fn in_file() -> Widths
-    ensures { (result ≡ in_file) × Narrow result }
-{
-    Widths {
-        offset: limits::OFFSET_BYTES,
+impl Widths {
+    // The widths of a file's entries.
+    pub(crate) fn in_file() -> Widths
+        ensures { (result ≡ in_file) × Narrow result }
+    {
+        Widths {
+            offset: limits::OFFSET_BYTES,
+        }
+    }
+
+    // The widths of lent entries.
+    pub(crate) fn as_lent() -> Widths
+        ensures { (result ≡ as_lent) × Narrow result }
+    {
+        Widths { offset: 0 }
+    }
+
+    // How many bytes an entry has.
+    pub(crate) fn width(self) -> usize
+        requires { Narrow self }
+        ensures { result ≡ width_of self }
+    {
+        limits::LENT_BYTES + self.offset
     }
 }
 
-// The widths of lent entries.
-pub(crate) fn as_lent() -> Widths
-    ensures { (result ≡ as_lent) × Narrow result }
-{
-    Widths { offset: 0 }
-}
-
-// How many bytes an entry has.
-pub(crate) fn width(w: Widths) -> usize
-    requires { Narrow w }
-    ensures { result ≡ width_of w }
-{
-    limits::LENT_BYTES + w.offset
+impl Entry {
+    // How many bytes the entry's body has.
+    #[tactic(auto, unfolding(crate::specs::Layout::size_of))]
+    pub(crate) fn size_of(self) -> usize
+        requires { Fits self }
+        ensures { (result ≡ size_of self) × (result < size_limit) }
+    {
+        record::OBSERVATION_BYTES * self.n
+    }
 }
 
 // The number of the k bytes from `at`.
+#[tactic(auto, using(table::proofs::Num::num_lt))]
 pub(crate) fn number(s: &[u8], at: usize, k: usize) -> u64
     requires { (at + k ≤ length s.now) × (k ≤ 8) }
     ensures { (result ≡ num k s.now at) × (result < 256 ^ k) }
@@ -79,15 +93,6 @@ pub(crate) fn offset_at(s: &[u8], p: usize, w: Widths, due: usize) -> usize
         return due;
     }
     number(s, p + limits::OFFSET_AT, w.offset) as usize
-}
-
-// How many bytes the entry's body has.
-#[tactic(auto, unfolding(crate::specs::Layout::size_of))]
-pub(crate) fn size_of(e: Entry) -> usize
-    requires { Fits e }
-    ensures { (result ≡ size_of e) × (result < size_limit) }
-{
-    record::OBSERVATION_BYTES * e.n
 }
 
 // Writes the entry e, whose body begins at `at`, from p on.

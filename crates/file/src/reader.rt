@@ -9,7 +9,7 @@ ghost use Rattle.file.specs.Tries.{head_tries, read_reply};
 ghost use Rattle.file.specs.Steps.{Stands};
 
 use crate::contents::Contents;
-use crate::layout::Entry;
+use crate::layout::{Entry, Widths};
 use crate::{contents, layout, limits};
 use reply::{Reason, Refusal};
 
@@ -26,7 +26,7 @@ fn contents_of(file: &[u8]) -> Contents
     requires { count_bytes ≤ length file.now }
     ensures { result ≡ filed file.now }
 {
-    let widths = layout::in_file();
+    let widths = Widths::in_file();
     let count = layout::number(file, 0, limits::COUNT_BYTES) as usize;
     let start = contents::bodies_at(count);
     Contents {
@@ -83,6 +83,6 @@ pub fn record_of(file: &[u8], i: usize) -> Found
     let c = contents_of(file);
     let entry = c.entry_in(file, i);
     let from = c.offset_in(file, i, 0);
-    let end = from + layout::size_of(entry);
+    let end = from + entry.size_of();
     Found { entry, from, end }
 }

@@ -12,6 +12,7 @@ ghost use Rattle.file.specs.Tries.{whole_tries, room_tries, write_reply, file_le
 ghost use Rattle.file.specs.Steps.{Roomy};
 
 use crate::contents::Contents;
+use crate::layout::Widths;
 use crate::{contents, layout, limits};
 use reply::{Reason, Refusal};
 
@@ -19,7 +20,7 @@ use reply::{Reason, Refusal};
 fn lent_in(entries: &[u8], run: usize) -> Contents
     ensures { result ≡ lent entries.now run }
 {
-    let widths = layout::as_lent();
+    let widths = Widths::as_lent();
     Contents {
         widths,
         count: entries.len() / limits::LENT_BYTES,
@@ -70,19 +71,19 @@ fn judge_write(entries: &[u8], bodies: &[u8], room: usize) -> Result<(), Refusal
 }
 
 // Writes the contents of a file of the lent entries c, the first body of which begins at `start`.
+#[tactic(auto, using(crate::proofs::Writing::putting))]
 fn put_contents(out: &mut [u8], entries: &[u8], c: Contents, start: usize)
     requires { Roomy c entries.now start out.old }
     ensures { out.new ≡ laid out.old count_bytes (contents in_file start (entries_in c entries.now)) }
 {
-    let w = layout::in_file();
-    let step = layout::width(w);
+    let w = Widths::in_file();
     let mut p = limits::COUNT_BYTES;
     let mut at = start;
     for i in 0..c.count {
         let e = c.entry_in(entries, i);
         layout::put_entry(out, p, w, e, at);
-        at += layout::size_of(e);
-        p += step;
+        p += w.width();
+        at += e.size_of();
     }
 }
 
