@@ -1,10 +1,9 @@
 -- What the functions that judge entries answer. Assumes nothing.
 use Rattle.std.specs.Prelude.{Result, Ok, IsErrAnd}
 use Rattle.std.proofs.lemmas.Result.{err_from_is_err_and}
-use Prim.Native.Nat.{ℕ, ◌+◌, ◌*◌, ◌^◌, ◌≤◌, ◌<◌}
+use Prim.Native.Nat.{ℕ, ◌+◌, ◌≤◌, ◌<◌}
 use mathlib.Core.Path.{◌≡◌, refl, sym, ap, ◌∙◌}
 use mathlib.Core.List.{List}
-use native.Mathlib.Nat.{mul-le-mul_left}
 use native.Mathlib.Numerals.{add-one}
 use native.Mathlib.Omega.{arith}
 use lib.ListN.{length}
@@ -17,23 +16,23 @@ use Rattle.reply.proofs.Answers.{Left, some_number, each_stop, each_on, each_end
 use Rattle.file.specs.declared.layout.Entry.{Entry}
 use Rattle.file.specs.declared.contents.Contents.{Contents}
 use Rattle.file.specs.declared.contents.Due.{Due}
-use Rattle.file.specs.Layout.{width_of, offset_at, size_of}
-use Rattle.file.specs.Contents.{place_in, entry_in, due_in, offset_in}
+use Rattle.file.specs.Layout.{offset_at, size_of}
+use Rattle.file.specs.Contents.{count_in, bodies_at, filed, lent, place_in, entry_in, due_in, offset_in}
 use Rattle.file.specs.Tries.{entry_tries, tries_in}
-use Rattle.file.specs.Steps.{Near, Listed, Judged}
+use Rattle.file.specs.Steps.{Listed, Judged}
+
+-- a file's entries and lent ones stand where they are read
+pub filed_listed : (f : List ℕ) → bodies_at (count_in f) ≤ length f → Listed (filed f) f
+filed_listed f h = record { narrow = record { offset = omega arith }; room = h; begun = h }
+
+pub lent_listed : (es : List ℕ) (run : ℕ) → Listed (lent es run) es
+lent_listed es run = record { narrow = record { offset = omega arith }; room = omega arith; begun = omega arith }
 
 -- what is tried of an entry has proper codes, and a reply of 0 says that nothing of it holds
 pub coded_entry : (c : Contents) (e : Entry) (offset : ℕ) (due : Due) (i : ℕ) → Coded (entry_tries c e offset due i)
 coded_entry c e offset due i = search depth 20
 
 module _ (c : Contents) (s : List ℕ) where
-  -- entry i is there, and near
-  pub place_room : Listed c s → (i : ℕ) → i < c.count → place_in c i + width_of c.widths ≤ length s
-  place_room L i h = omega (arith, L.room, mul-le-mul_left (width_of c.widths) h)
-
-  pub place_near : Listed c s → (i : ℕ) → i < c.count → length s < 2 ^ 64 → Near c i
-  place_near L i h few = record { narrow = L.narrow; place = omega (arith, place_room L i h) }
-
   -- what is due of the first entry, and of the next
   pub due_first : due_in c s 0 ≡ record { floor = 0; at = c.start }
   unfolding due_in

@@ -68,6 +68,7 @@ pub fn read_file(file: &[u8]) -> Result<(), Refusal>
 }
 
 // How many records an accepted file has.
+#[tactic(auto, using(crate::proofs::Accepted::read_counted, crate::proofs::Accepted::read_few))]
 pub fn count_of(file: &[u8]) -> usize
     requires { (read_reply file.now).code ≡ 0 }
     ensures { (result ≡ count_in file.now) × (result ≤ most_records) }
@@ -76,6 +77,7 @@ pub fn count_of(file: &[u8]) -> usize
 }
 
 // Record i of an accepted file.
+#[tactic(auto, using(crate::proofs::Records::records))]
 pub fn record_of(file: &[u8], i: usize) -> Found
     requires { ((read_reply file.now).code ≡ 0) × (i < count_in file.now) }
     ensures { Stands result file.now i }

@@ -88,6 +88,7 @@ fn put_contents(out: &mut [u8], entries: &[u8], c: Contents, start: usize)
 }
 
 // Writes the file of what is lent.
+#[tactic(auto, using(crate::proofs::Writing::lent_put))]
 fn put_file(entries: &[u8], bodies: &[u8], out: &mut [u8])
     requires { (write_reply entries.now bodies.now (length out.old)).code ≡ 0 }
     ensures { out.new ≡ laid out.old 0 (file_of (lent_items entries.now bodies.now)) }
