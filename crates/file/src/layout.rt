@@ -96,6 +96,7 @@ pub(crate) fn offset_at(s: &[u8], p: usize, w: Widths, due: usize) -> usize
 }
 
 // Writes the entry e, whose body begins at `at`, from p on.
+#[tactic(auto, using(crate::proofs::Codec::entry_put))]
 pub(crate) fn put_entry(out: &mut [u8], p: usize, w: Widths, e: Entry, at: usize)
     requires { p + width_of w ≤ length out.old }
     ensures { out.new ≡ laid out.old p (encode w e at) }
