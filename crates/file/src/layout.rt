@@ -101,21 +101,11 @@ pub(crate) fn put_entry(out: &mut [u8], p: usize, w: Widths, e: Entry, at: usize
     requires { p + width_of w ≤ length out.old }
     ensures { out.new ≡ laid out.old p (encode w e at) }
 {
-    let asked = e.asked;
+    let Asked { kernel, kind, dmax } = e.asked;
     table::store(out, p, limits::TERM_BYTES, e.term);
-    table::store(
-        out,
-        p + limits::KERNEL_AT,
-        limits::KERNEL_BYTES,
-        asked.kernel,
-    );
-    table::store(out, p + limits::KIND_AT, limits::KIND_BYTES, asked.kind);
-    table::store(
-        out,
-        p + limits::DMAX_AT,
-        limits::DMAX_BYTES,
-        asked.dmax as u64,
-    );
+    table::store(out, p + limits::KERNEL_AT, limits::KERNEL_BYTES, kernel);
+    table::store(out, p + limits::KIND_AT, limits::KIND_BYTES, kind);
+    table::store(out, p + limits::DMAX_AT, limits::DMAX_BYTES, dmax as u64);
     table::store(out, p + limits::N_AT, limits::N_BYTES, e.n as u64);
     table::store(out, p + limits::OFFSET_AT, w.offset, at as u64);
 }
