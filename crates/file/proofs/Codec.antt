@@ -166,8 +166,9 @@ store_next o p q n m k v s hp hm hq = (
 
 pub entry_put :
     (o : List ℕ) (p : ℕ) (w : Widths) (e : Entry) (at : ℕ) (a b c d f g : List ℕ) → a ≡ put term_bytes o p e.term →
-    b ≡ put kernel_bytes a (to_kernel p) e.asked.kernel → c ≡ put kind_bytes b (to_kind p) e.asked.kind →
-    d ≡ put dmax_bytes c (to_dmax p) e.asked.dmax → f ≡ put n_bytes d (to_n p) e.n → g ≡ put w.offset f (to_offset p) at →
+    b ≡ put kernel_bytes a (p + term_bytes) e.asked.kernel → c ≡ put kind_bytes b (p + (term_bytes + kernel_bytes)) e.asked.kind →
+    d ≡ put dmax_bytes c (p + (term_bytes + kernel_bytes + kind_bytes)) e.asked.dmax →
+    f ≡ put n_bytes d (p + (term_bytes + kernel_bytes + kind_bytes + dmax_bytes)) e.n → g ≡ put w.offset f (p + width_of as_lent) at →
     g ≡ laid o p (encode w e at)
 unfolding encode
 entry_put o p w e at a b c d f g ha hb hc hd hf hg =
@@ -177,11 +178,11 @@ entry_put o p w e at a b c d f g ha hb hc hd hf hg =
     let dmax : List ℕ = kind ++ le dmax_bytes e.asked.dmax in
     let n : List ℕ = dmax ++ le n_bytes e.n in
     let A = store_next o o a p p term_bytes e.term [] refl (omega arith) ha in
-    let B = store_next o a b p (to_kernel p) kernel_bytes e.asked.kernel term A.0 A.1 hb in
-    let C = store_next o b c p (to_kind p) kind_bytes e.asked.kind kernel B.0 B.1 hc in
-    let D = store_next o c d p (to_dmax p) dmax_bytes e.asked.dmax kind C.0 C.1 hd in
-    let F = store_next o d f p (to_n p) n_bytes e.n dmax D.0 D.1 hf in
-    let G = store_next o f g p (to_offset p) w.offset at n F.0 F.1 hg in
+    let B = store_next o a b p _ kernel_bytes e.asked.kernel term A.0 (omega (arith, A.1)) hb in
+    let C = store_next o b c p _ kind_bytes e.asked.kind kernel B.0 (omega (arith, B.1)) hc in
+    let D = store_next o c d p _ dmax_bytes e.asked.dmax kind C.0 (omega (arith, C.1)) hd in
+    let F = store_next o d f p _ n_bytes e.n dmax D.0 (omega (arith, D.1)) hf in
+    let G = store_next o f g p _ w.offset at n F.0 (omega (arith, F.1)) hg in
     let whole : n ++ le w.offset at ≡ encode w e at = simp append_assoc in
     G.0 ∙ ap (laid o p) whole
 

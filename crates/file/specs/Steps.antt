@@ -1,9 +1,10 @@
 -- What the functions of the reader and the writer ask of one another.
-use Rattle.std.specs.Prelude.{ℕ, ◌+◌, ◌-◌, ◌^◌, ◌≤◌, ◌<◌, ◌≡◌, List, length, take, drop}
+use Rattle.std.specs.Prelude.{ℕ, ◌+◌, ◌-◌, ◌^◌, ◌≤◌, ◌<◌, ◌≡◌, List, Result, IfOk, length, take, drop}
+use Rattle.reply.specs.declared.Refusal.{Refusal}
+use Rattle.reply.specs.Refusal.{reply_of}
 use Rattle.reply.specs.Tries.{first_of}
 use Rattle.file.specs.declared.layout.Widths.{Widths}
 use Rattle.file.specs.declared.contents.Contents.{Contents}
-use Rattle.file.specs.declared.contents.Reached.{Reached}
 use Rattle.file.specs.declared.reader.Found.{Found}
 use Rattle.file.specs.Limits.{most_bytes, most_records, offset_bytes}
 use Rattle.file.specs.Layout.{size_of}
@@ -27,10 +28,10 @@ pub record Listed (c : Contents) (s : List ℕ) : Type 0 where
   pub begun : c.start ≤ c.limit
 
 -- The reply to the entries, and where their bodies end if none is refused.
-pub record Judged (r : Reached) (c : Contents) (s : List ℕ) : Type 0 where
-  pub told : r.reply ≡ first_of (contents_tries c s)
-  pub ended : r.reply.code ≡ 0 → r.end ≡ (due_in c s c.count).at
-  pub within : r.end ≤ c.limit
+pub record Judged (r : Result ℕ Refusal) (c : Contents) (s : List ℕ) : Type 0 where
+  pub told : reply_of r ≡ first_of (contents_tries c s)
+  pub ended : IfOk r (λ e. e ≡ (due_in c s c.count).at)
+  pub within : IfOk r (λ e. e ≤ c.limit)
 
 -- Room for the contents of a file of the entries of c, whose bodies begin at `start`.
 pub record Roomy (c : Contents) (s : List ℕ) (start : ℕ) (out : List ℕ) : Type 0 where

@@ -18,6 +18,9 @@ use Rattle.file.specs.Items.{file_of, lent_items}
 abbrev pub bad_count : ℕ → Fact
 bad_count n = n is 0 or n is_above most_records
 
+abbrev pub count_try : ℕ → Tries
+count_try n = try (bad_count n) 21 0
+
 -- "entry by entry 23, 24, 22", then "28, a body past the end, is tried right after it on the same entry": entry i of the contents c, with its offset and
 -- what is due of it. The position is "where the entry's offset field begins, or the file's length (in the writer, the run's)".
 abbrev pub entry_tries : Contents → Entry → (offset : ℕ) → Due → (i : ℕ) → Tries
@@ -56,7 +59,7 @@ abbrev pub head_tries : List ℕ → Tries
 head_tries f =
     try (length f is_above most_bytes) 26 0
     then try (length f is_below count_bytes) 20 0
-    then try (bad_count (count_in f)) 21 0
+    then count_try (count_in f)
     then try (length f is_below bodies_at (count_in f)) 20 0
 
 -- .. then entry by entry 23, 24, 22", and 28, "then 25."
@@ -78,7 +81,7 @@ room_tries long room = try (long is_above most_bytes) 26 0 then try (room is_bel
 
 -- "It tries 20 for a last entry cut short, 21, ..
 abbrev pub whole_tries : List ℕ → Tries
-whole_tries es = try (length es % lent_bytes is_not 0) 20 0 then try (bad_count (count_lent es)) 21 0
+whole_tries es = try (length es % lent_bytes is_not 0) 20 0 then count_try (count_lent es)
 
 -- .. then each entry for 23, 24", and 28; "then 25 (bytes left over), 26, 27."
 unfoldable pub write_tries : (es bs : List ℕ) → ℕ → Tries

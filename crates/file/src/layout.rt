@@ -9,7 +9,7 @@ use crate::limits;
 use record::Asked;
 
 // A layout: the widths of the fields that not every layout has, 0 where there is no such field.
-#[derive(Clone, Copy)]
+#[derive(Clone, Copy, Debug, PartialEq, Eq)]
 pub(crate) struct Widths {
     pub offset: usize,
 }
@@ -22,31 +22,45 @@ pub struct Entry {
     pub n: usize,
 }
 
-// The widths of a file's entries.
-pub(crate) fn in_file() -> Widths
-    ensures { (result ≡ in_file) × Narrow result }
-{
-    Widths {
-        offset: limits::OFFSET_BYTES,
+impl Widths {
+    // The widths of a file's entries.
+    pub(crate) fn in_file() -> Widths
+        ensures { (result ≡ in_file) × Narrow result }
+    {
+        Widths {
+            offset: limits::OFFSET_BYTES,
+        }
+    }
+
+    // The widths of lent entries.
+    pub(crate) fn as_lent() -> Widths
+        ensures { (result ≡ as_lent) × Narrow result }
+    {
+        Widths { offset: 0 }
+    }
+
+    // How many bytes an entry has.
+    pub(crate) fn width(self) -> usize
+        requires { Narrow self }
+        ensures { result ≡ width_of self }
+    {
+        limits::LENT_BYTES + self.offset
     }
 }
 
-// The widths of lent entries.
-pub(crate) fn as_lent() -> Widths
-    ensures { (result ≡ as_lent) × Narrow result }
-{
-    Widths { offset: 0 }
-}
-
-// How many bytes an entry has.
-pub(crate) fn width(w: Widths) -> usize
-    requires { Narrow w }
-    ensures { result ≡ width_of w }
-{
-    limits::LENT_BYTES + w.offset
+impl Entry {
+    // How many bytes the entry's body has.
+    #[tactic(auto, unfolding(crate::specs::Layout::size_of))]
+    pub(crate) fn size_of(self) -> usize
+        requires { Fits self }
+        ensures { (result ≡ size_of self) × (result < size_limit) }
+    {
+        record::OBSERVATION_BYTES * self.n
+    }
 }
 
 // The number of the k bytes from `at`.
+#[tactic(auto, using(table::proofs::Num::num_lt))]
 pub(crate) fn number(s: &[u8], at: usize, k: usize) -> u64
     requires { (at + k ≤ length s.now) × (k ≤ 8) }
     ensures { (result ≡ num k s.now at) × (result < 256 ^ k) }
@@ -55,24 +69,22 @@ pub(crate) fn number(s: &[u8], at: usize, k: usize) -> u64
 }
 
 // The entry at p.
+#[tactic(auto, unfolding(crate::specs::Layout::entry_at))]
 pub(crate) fn entry_at(s: &[u8], p: usize) -> Entry
     requires { to_offset p ≤ length s.now }
     ensures { (result ≡ entry_at s.now p) × Fits result }
 {
-    let to_kernel = p + limits::TERM_BYTES;
-    let to_kind = to_kernel + limits::KERNEL_BYTES;
-    let to_dmax = to_kind + limits::KIND_BYTES;
-    let to_n = to_dmax + limits::DMAX_BYTES;
     let term = number(s, p, limits::TERM_BYTES);
-    let kernel = number(s, to_kernel, limits::KERNEL_BYTES);
-    let kind = number(s, to_kind, limits::KIND_BYTES);
-    let dmax = number(s, to_dmax, limits::DMAX_BYTES) as usize;
-    let n = number(s, to_n, limits::N_BYTES) as usize;
+    let kernel = number(s, p + limits::KERNEL_AT, limits::KERNEL_BYTES);
+    let kind = number(s, p + limits::KIND_AT, limits::KIND_BYTES);
+    let dmax = number(s, p + limits::DMAX_AT, limits::DMAX_BYTES) as usize;
+    let n = number(s, p + limits::N_AT, limits::N_BYTES) as usize;
     let asked = Asked { kernel, kind, dmax };
     Entry { term, asked, n }
 }
 
 // The offset of the entry at p; one that is not there is where the body is due.
+#[tactic(auto, using(crate::proofs::Codec::field_none, crate::proofs::Codec::offset_some))]
 pub(crate) fn offset_at(s: &[u8], p: usize, w: Widths, due: usize) -> usize
     requires { (p + width_of w ≤ length s.now) × Narrow w }
     ensures { result ≡ offset_at w s.now p due }
@@ -80,32 +92,20 @@ pub(crate) fn offset_at(s: &[u8], p: usize, w: Widths, due: usize) -> usize
     if w.offset == 0 {
         return due;
     }
-    number(s, p + limits::LENT_BYTES, w.offset) as usize
-}
-
-// How many bytes the entry's body has.
-pub(crate) fn size_of(e: Entry) -> usize
-    requires { Fits e }
-    ensures { (result ≡ size_of e) × (result < size_limit) }
-{
-    record::OBSERVATION_BYTES * e.n
+    number(s, p + limits::OFFSET_AT, w.offset) as usize
 }
 
 // Writes the entry e, whose body begins at `at`, from p on.
+#[tactic(auto, using(crate::proofs::Codec::entry_put))]
 pub(crate) fn put_entry(out: &mut [u8], p: usize, w: Widths, e: Entry, at: usize)
     requires { p + width_of w ≤ length out.old }
     ensures { out.new ≡ laid out.old p (encode w e at) }
 {
-    let to_kernel = p + limits::TERM_BYTES;
-    let to_kind = to_kernel + limits::KERNEL_BYTES;
-    let to_dmax = to_kind + limits::KIND_BYTES;
-    let to_n = to_dmax + limits::DMAX_BYTES;
-    let to_offset = to_n + limits::N_BYTES;
-    let asked = e.asked;
+    let Asked { kernel, kind, dmax } = e.asked;
     table::store(out, p, limits::TERM_BYTES, e.term);
-    table::store(out, to_kernel, limits::KERNEL_BYTES, asked.kernel);
-    table::store(out, to_kind, limits::KIND_BYTES, asked.kind);
-    table::store(out, to_dmax, limits::DMAX_BYTES, asked.dmax as u64);
-    table::store(out, to_n, limits::N_BYTES, e.n as u64);
-    table::store(out, to_offset, w.offset, at as u64);
+    table::store(out, p + limits::KERNEL_AT, limits::KERNEL_BYTES, kernel);
+    table::store(out, p + limits::KIND_AT, limits::KIND_BYTES, kind);
+    table::store(out, p + limits::DMAX_AT, limits::DMAX_BYTES, dmax as u64);
+    table::store(out, p + limits::N_AT, limits::N_BYTES, e.n as u64);
+    table::store(out, p + limits::OFFSET_AT, w.offset, at as u64);
 }

@@ -17,4 +17,16 @@ pub(crate) const N_BYTES: usize = 2;
 
 pub(crate) const OFFSET_BYTES: usize = 4;
 
-pub(crate) const LENT_BYTES: usize = TERM_BYTES + KERNEL_BYTES + KIND_BYTES + DMAX_BYTES + N_BYTES;
+// Where the fields of an entry stand, from its first byte on; its term number stands first.
+pub(crate) const KERNEL_AT: usize = TERM_BYTES;
+
+pub(crate) const KIND_AT: usize = KERNEL_AT + KERNEL_BYTES;
+
+pub(crate) const DMAX_AT: usize = KIND_AT + KIND_BYTES;
+
+pub(crate) const N_AT: usize = DMAX_AT + DMAX_BYTES;
+
+pub(crate) const OFFSET_AT: usize = N_AT + N_BYTES;
+
+// A lent entry ends where the offset would stand.
+pub(crate) const LENT_BYTES: usize = OFFSET_AT;

@@ -1,14 +1,17 @@
 // The reader: the reply to a file, and the records of one that is accepted.
-ghost use Rattle.std.specs.Prelude.{◌≡◌, ◌≤◌, ◌<◌, length};
+ghost use Rattle.std.specs.Prelude.{◌≡◌, ◌≤◌, ◌<◌, length, IfOk};
+ghost use Rattle.reply.specs.Reply.{refusal};
+ghost use Rattle.reply.specs.Refusal.{code_in, reply_of};
+ghost use Rattle.reply.specs.Tries.{first_of};
 ghost use Rattle.file.specs.Limits.{most_records, count_bytes};
 ghost use Rattle.file.specs.Contents.{count_in, filed};
-ghost use Rattle.file.specs.Tries.{read_reply};
+ghost use Rattle.file.specs.Tries.{head_tries, read_reply};
 ghost use Rattle.file.specs.Steps.{Stands};
 
 use crate::contents::Contents;
-use crate::layout::Entry;
+use crate::layout::{Entry, Widths};
 use crate::{contents, layout, limits};
-use reply::Reply;
+use reply::{Reason, Refusal};
 
 // A record of a file: its entry, and where in the file its body begins and ends.
 #[derive(Clone, Copy)]
@@ -23,7 +26,7 @@ fn contents_of(file: &[u8]) -> Contents
     requires { count_bytes ≤ length file.now }
     ensures { result ≡ filed file.now }
 {
-    let widths = layout::in_file();
+    let widths = Widths::in_file();
     let count = layout::number(file, 0, limits::COUNT_BYTES) as usize;
     let start = contents::bodies_at(count);
     Contents {
@@ -35,43 +38,53 @@ fn contents_of(file: &[u8]) -> Contents
     }
 }
 
-// The reply to a file.
-pub fn read_file(file: &[u8]) -> Reply
-    ensures { result ≡ read_reply file.now }
+// 26, 20 and 21: the head of a file, and where its entries stand.
+#[tactic(auto, using(reply::proofs::Answers::answers))]
+fn judge_head(file: &[u8]) -> Result<Contents, Reason>
+    ensures reply { refusal (code_in result) 0 ≡ first_of (head_tries file.now) }
+    ensures contents { IfOk result (λ c. (c ≡ filed file.now) × (c.start ≤ length file.now)) }
 {
     if limits::MOST_BYTES < file.len() {
-        return reply::refused(26, 0);
+        return Err(Reason::FileTooLong);
     }
     if file.len() < limits::COUNT_BYTES {
-        return reply::refused(20, 0);
+        return Err(Reason::FileTooShort);
     }
     let c = contents_of(file);
-    if contents::bad_count(c.count) {
-        return reply::refused(21, 0);
-    }
+    contents::judge_count(c.count)?;
     if file.len() < c.start {
-        return reply::refused(20, 0);
+        return Err(Reason::FileTooShort);
     }
-    contents::judge(file, c)
+    Ok(c)
+}
+
+// The reply to a file: done, or why it is refused.
+#[tactic(auto, using(reply::proofs::Answers::answers), unfolding(crate::specs::Tries::read_tries))]
+pub fn read_file(file: &[u8]) -> Result<(), Refusal>
+    ensures { reply_of result ≡ read_reply file.now }
+{
+    let c = judge_head(file)?;
+    c.judge(file)
 }
 
 // How many records an accepted file has.
+#[tactic(auto, using(crate::proofs::Accepted::read_counted, crate::proofs::Accepted::read_few))]
 pub fn count_of(file: &[u8]) -> usize
     requires { (read_reply file.now).code ≡ 0 }
     ensures { (result ≡ count_in file.now) × (result ≤ most_records) }
 {
-    let c = contents_of(file);
-    c.count
+    contents_of(file).count
 }
 
 // Record i of an accepted file.
+#[tactic(auto, using(crate::proofs::Records::records))]
 pub fn record_of(file: &[u8], i: usize) -> Found
     requires { ((read_reply file.now).code ≡ 0) × (i < count_in file.now) }
     ensures { Stands result file.now i }
 {
     let c = contents_of(file);
-    let entry = contents::entry_in(file, c, i);
-    let from = contents::offset_in(file, c, i, 0);
-    let end = from + layout::size_of(entry);
+    let entry = c.entry_in(file, i);
+    let from = c.offset_in(file, i, 0);
+    let end = from + entry.size_of();
     Found { entry, from, end }
 }

@@ -1,18 +1,8 @@
--- `file::reader::read_file` meets its contract. Assumes nothing.
-use Rattle.file.proofs.Replies.{read_long, read_none, read_bad, read_short, read_judged}
+-- `file::reader::read_file` meets its contract: the tries of the head, then of the entries. Assumes nothing.
+use Rattle.reply.proofs.Answers.{answers, reason_told}
+use Rattle.file.specs.Tries.{read_tries}
 use Rattle.file.proofs.reader.read_file.Goals as goal
 
-pub returns-then-file-gt-MOST_BYTES : goal.returns-then-file-gt-MOST_BYTES
-returns-then-file-gt-MOST_BYTES c = search read_long
-
-pub returns-then-file-lt-COUNT_BYTES : goal.returns-then-file-lt-COUNT_BYTES
-returns-then-file-lt-COUNT_BYTES c = search read_none
-
-pub returns-then-bad_count : goal.returns-then-bad_count
-returns-then-bad_count c = search read_bad
-
-pub returns-then-file-c : goal.returns-then-file-c
-returns-then-file-c c = search read_short
-
-pub returns : goal.returns
-returns c = search read_judged
+pub returns-in_err-c : goal.returns-in_err-c
+unfolding read_tries
+returns-in_err-c c = reason_told _ _ _ c.from_residual.ensures.1 (search (answers, c.in_err-c.ensures.reply))

@@ -1,15 +1,14 @@
--- `file::writer::judge_write` meets its contract. Assumes nothing.
-use Rattle.file.proofs.Replies.{write_cut, write_bad, write_stop, write_room}
+-- `file::writer::judge_write` meets its contract: the tries of the count, then of the entries, then of the room. Assumes nothing.
+use Rattle.reply.proofs.Answers.{answers, reason_told, refusal_handed}
+use Rattle.file.specs.Tries.{write_tries}
 use Rattle.file.proofs.writer.judge_write.Goals as goal
 
-pub returns-then-entries-ne0 : goal.returns-then-entries-ne0
-returns-then-entries-ne0 c = search write_cut
+pub returns-in_err-c : goal.returns-in_err-c
+unfolding write_tries
+returns-in_err-c c = reason_told _ _ _ c.from_residual.ensures.1 (search (answers, c.in_err-c.ensures.reply))
 
-pub returns-then-bad_count : goal.returns-then-bad_count
-returns-then-bad_count c = search write_bad
-
-pub returns-then-r-ne0 : goal.returns-then-r-ne0
-returns-then-r-ne0 c = search write_stop
-
-pub returns : goal.returns
-returns c = search write_room
+pub returns-in_err-judge : goal.returns-in_err-judge
+unfolding write_tries
+returns-in_err-judge c =
+    refusal_handed _ _ _ c.from_residual-in_err-judge.ensures.1
+    (search (answers, c.in_ok-c.ensures.reply, rw c.in_ok-c.ensures.contents.0 at c.in_err-judge.ensures))

@@ -1,10 +1,6 @@
 -- `file::writer::put_contents` meets its contract. The loop's invariant: what is still to be laid gives what is to be. Assumes nothing.
-use Prim.Native.Nat.{◌-◌}
 use Rattle.file.proofs.Writing.{Putting}
 use Rattle.file.proofs.writer.put_contents.Given as goal
 
 abbrev pub invariant-loop-i : goal.invariant-loop-i
 invariant-loop-i l = Putting l.c l.entries l.start l.initial.out l.i l.p l.at l.out
-
-abbrev pub decreases-loop-i : goal.decreases-loop-i
-decreases-loop-i l = l.c.count - l.i
