@@ -7,6 +7,7 @@ ghost use Rattle.std.specs.Prelude.{◌≡◌, ◌<◌, ◌≤◌, length};
 ghost use Rattle.file.specs.Contents.{count_in};
 ghost use Rattle.file.specs.Tries.{read_reply};
 
+use reply::Reply;
 use report::TooShort;
 use std::io::Read;
 
@@ -42,10 +43,9 @@ fn print_terms(rt: &impl Print, file: &[u8])
 }
 
 fn print_file(rt: &impl Print, file: &[u8]) {
-    let r = file::read_file(file);
-    if r.code != 0 {
+    if let Err(refusal) = file::read_file(file) {
         let mut line = [0u8; report::LINE_ROOM];
-        let w = report::file_line(r, &mut line);
+        let w = report::file_line(Reply::from(refusal), &mut line);
         print_text(rt, w, &line);
         return;
     }

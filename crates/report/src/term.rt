@@ -67,9 +67,9 @@ fn put_lines(text: &mut Text, term: Term, body: &[u8], costs: &mut [u8], starts:
     ensures { Grown text.old (lines_of term.number term.asked body.now) text.new }
 {
     let asked = term.asked;
-    let r = engine::solve(asked, body, costs, starts);
-    line::put_head(text, term.number, r);
-    if r.code != 0 {
+    let solved = engine::solve(asked, body, costs, starts);
+    line::put_head(text, term.number, Reply::from(solved));
+    if solved.is_err() {
         return;
     }
     for k in 0..asked.dmax {

@@ -1,9 +1,16 @@
 -- `report::term::put_lines` meets its contract: each line stands behind the others, and all of them are the term's. Assumes nothing.
+use Rattle.std.specs.Prelude.{Result, is_err}
 use Prim.Native.Nat.{◌+◌}
-use mathlib.Core.Path.{◌≡◌, ap, ap₂, ◌∙◌}
+use mathlib.Core.Path.{◌≡◌, sym, ap, ap₂, ◌∙◌}
 use mathlib.Core.List.{◌++◌}
 use native.Mathlib.Omega.{arith}
 use lib.ListN.{length}
+use mathlib.Core.Bool.{Bool, false}
+use Rattle.reply.specs.declared.Reply.{Reply}
+use Rattle.reply.specs.declared.Refusal.{Refusal}
+use Rattle.reply.specs.Refusal.{reply_of}
+use Rattle.reply.proofs.Exactly.{code_of}
+use Rattle.reply.proofs.Answers.{ok_done}
 use Rattle.engine.proofs.Accepted.{costs_space}
 use Rattle.text.proofs.Pieces.{grown_nothing, grown, retell}
 use Rattle.report.specs.declared.line.Line.{Line}
@@ -14,13 +21,17 @@ use Rattle.report.proofs.Tables.{answer_length, lines_more}
 use Rattle.report.proofs.Solved as term
 use Rattle.report.proofs.term.put_lines.Goals as goal
 
+-- the reply to a record that is not refused is 0
+zero : {r : Reply} {b : Bool} (o : Result Unit Refusal) → r ≡ reply_of o → b ≡ is_err o → b ≡ false → r.code ≡ 0
+zero o e t f = code_of (e ∙ ok_done o (sym t ∙ f))
+
 pub loop-k-init : goal.loop-k-init
 unfolding table_lines
 loop-k-init c =
     let s = c.args in
     record {
       accepted = term.accepted s.term.number s.term.asked s.body.now s.costs.now s.starts.now c.requires.1 c.requires.2
-          c.solve-r.result c.solve-r.ensures.reply (omega arith);
+          c.from.result (c.from.ensures ∙ c.solve-solved.ensures.reply) (zero _ c.from.ensures c.is_err.ensures.value c.if-is_err.false);
       put = grown_nothing _;
       upper_bound = omega arith;
     }
@@ -34,7 +45,7 @@ pub put_line-requires : goal.put_line-requires
 put_line-requires c =
     let few = c.loop-k.invariant.accepted.fit.segments.few_segments in
     let d_is : c.line_at-l.result.d ≡ c.loop-k.k + 1 = ap (λ (x : Line). x.d) c.line_at-l.ensures in (
-      omega (arith, head_length_lem c.args.term.number c.solve-r.result),
+      omega (arith, head_length_lem c.args.term.number c.from.result),
       omega arith,
       omega arith,
       ap (λ (x : Line). length x.starts) c.line_at-l.ensures ∙ answer_length _ _ _,
@@ -53,10 +64,10 @@ returns c =
     let asked = a.term.asked in
     let body = a.body.now in
     let all : c.loop-k.k ≡ asked.dmax = omega arith in
-    let t = c.solve-r.ensures in
+    let t = c.solve-solved.ensures in
     retell
-    (ap (head_text a.term.number c.solve-r.result ++◌)
+    (ap (head_text a.term.number c.from.result ++◌)
     (ap (table_lines asked body _ _) all ∙ ap₂ (λ x y. table_lines asked body x y asked.dmax) t.costs_after t.starts_after)
     ∙ term.accepted_lines a.term.number asked body a.costs.now a.starts.now c.requires.1 c.requires.2
-    c.solve-r.result c.solve-r.ensures.reply (omega arith))
+    c.from.result (c.from.ensures ∙ t.reply) (zero _ c.from.ensures c.is_err.ensures.value c.if-is_err.false))
     (grown c.put_head.ensures c.loop-k.invariant.put)
