@@ -10,7 +10,7 @@ use Rattle.reply.specs.declared.Reason.{Reason}
 use Rattle.reply.specs.declared.Reason.TheVariants.{UnknownKernel}
 use Rattle.reply.specs.Reply.{refusal}
 use Rattle.reply.specs.Refusal.{code_in}
-use Rattle.reply.specs.Facts.{◌is◌, ◌or◌, ◌is_above◌, Holds, Fails}
+use Rattle.reply.specs.Facts.{◌is◌, ◌or◌, ◌is_above◌}
 use Rattle.reply.specs.Tries.{first_of}
 use Rattle.reply.proofs.Facts.{decide}
 use Rattle.reply.proofs.Answers.{last_holds, last_fails}

@@ -2,19 +2,18 @@
 -- where it is finite it is exact, and where it overflows the share is out of range.
 use Rattle.std.specs.Prelude.{Ok, Err}
 use mathlib.Core.Path.{◌≡◌, refl, sym, ap, ◌∙◌, subst}
-use Prim.Native.Nat.{ℕ, zero, suc, ◌+◌, ◌-◌, ◌*◌, ◌/◌, ◌%◌, ◌^◌, ◌≤◌, ◌<◌}
+use Prim.Native.Nat.{ℕ, ◌+◌, ◌*◌, ◌/◌, ◌%◌, ◌^◌, ◌≤◌, ◌<◌}
 use native.Mathlib.Nat.{le_trans, le_of_eq, lt_of_lt_of_le, lt_of_le_of_lt, mul-one, zero-mul, add-zero, mul_right_comm, mul-lt-mul_of_pos_right, lt_of_mul-lt-mul_right, mul-mod_left, eq_of_mul-eq-mul_right, div-add-mod', div-le_of_le-mul, mul_comm, zero-div, zero-mod}
 use native.Mathlib.Omega.{arith}
 use mathlib.Core.Bool.{Bool, true, false, not, cond, ◌&&◌, ◌||◌, beq, true≢false, false≢true}
 use lib.IntN.{ℤ, pos}
 use lib.Dec.{T, ltb, leb, eqb, ltb→lt, lt→ltb, nltb→le, le→leb, eqb→eq, lit<, lit≤}
-use lib.Ieee.{Float, nan, inf, fin, Format, binary64, prec, emax, low, up, down, odd, units, round, sum, add, sub, mul, lt, eq, ne, is_nan, fits, whole, in_signed, to_signed}
+use lib.Ieee.{Float, nan, inf, fin, binary64, up, down, add, sub, mul, lt, eq, ne, fits, whole, in_signed, to_signed}
 use Rattle.std.specs.Float.{float_is_finite}
-use lib.Ieee.Fits.{round_is, down_pos, and_i, eq→eqb}
+use lib.Ieee.Fits.{down_pos, and_i, eq→eqb}
 use lib.Ieee.Casts.{to_signed_cut}
 use lib.Ieee.Exact.{HasValue}
 use lib.Ieee.Nearest.{div_same}
-use lib.Ieee.Compare.{differs_from_itself}
 use borrow.Author.Tests.{ltb-true, ltb-false, eqb-true, eqb-false, lt-ltb, le-ltb, eq-eqb, ne_eqb}
 use Rattle.sample.specs.Level.{power}
 use Rattle.sample.specs.Judge.{Judged}

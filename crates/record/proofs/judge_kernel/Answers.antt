@@ -1,5 +1,4 @@
 -- `record::judge_kernel` meets its contract.
-use Rattle.std.proofs.Common.{sym}
 use Rattle.record.proofs.Kernels.{told_kernel}
 use Rattle.record.proofs.judge_kernel.Goals as goal
 

@@ -1,6 +1,6 @@
 -- `record::judge_samples` meets its contract. The loop's invariant: what is left to try from i on gives the reply.
 -- Assumes nothing.
-use Prim.Native.Nat.{ℕ, ◌-◌}
+use Prim.Native.Nat.{ℕ}
 use mathlib.Core.List.{List}
 use Rattle.reply.specs.Tries.{Tries}
 use Rattle.reply.proofs.Answers.{Left}
@@ -14,4 +14,3 @@ here asked body i = sample_try (judged_at asked body i) i
 
 abbrev pub invariant-loop-i : goal.invariant-loop-i
 invariant-loop-i l = Left (here l.asked l.body) 0 l.n l.i
-

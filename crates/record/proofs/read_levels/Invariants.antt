@@ -1,5 +1,5 @@
 -- `record::read_levels` meets its contract. The loop's invariant: the places below i hold their levels. Assumes nothing.
-use Prim.Native.Nat.{ℕ, ◌-◌, ◌<◌}
+use Prim.Native.Nat.{ℕ, ◌<◌}
 use mathlib.Core.Path.{◌≡◌}
 use mathlib.Core.List.{List}
 use lib.ListN.{length, get_or}
@@ -14,4 +14,3 @@ number asked body j = level_number (level_of (judged_at asked body j))
 abbrev pub invariant-loop-i : goal.invariant-loop-i
 invariant-loop-i l =
     (length l.out ≡ length l.initial.out) × ((j : ℕ) → j < l.i → get_or l.out j 0 ≡ number l.asked l.body j)
-

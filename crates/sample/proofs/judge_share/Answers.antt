@@ -1,8 +1,8 @@
 -- `sample::judge_share` meets its contract. What each test tells of x, the product, is in `proofs/Product.antt`, with each number written `fin s m e`; the code's numbers stand by their bit patterns.
-use Rattle.std.proofs.Common.{◌≡◌, sym, ap, ◌∙◌, subst, true, false, Ok}
+use Rattle.std.proofs.Common.{◌≡◌, sym, ap, ◌∙◌, subst, true, Ok}
 use Rattle.std.specs.Float.{float_is_finite}
 use lib.Dec.{T}
-use lib.Ieee.{Float, binary64, mul, sub, ne, neg, of_bits, to_signed, fits}
+use lib.Ieee.{Float, binary64, mul, neg, of_bits, to_signed, fits}
 use lib.Ieee.Casts.{to_signed_in}
 use mir.Syntax.{w64}
 use mir.ValLaws.{to_z-of_z}

@@ -1,6 +1,6 @@
 -- `segment::judge_rising` meets its contract. The loop's invariant: what is left to try from i on gives the reply.
 -- Assumes nothing.
-use Prim.Native.Nat.{◌≤◌, ◌-◌}
+use Prim.Native.Nat.{◌≤◌}
 use lib.ListN.{length}
 use Rattle.reply.proofs.Answers.{Left}
 use Rattle.record.specs.Tries.{day_try}

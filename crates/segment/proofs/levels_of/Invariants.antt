@@ -1,6 +1,5 @@
 -- `segment::levels_of` meets its contract. The loop's invariant: the levels from the start to i are added.
 -- Assumes nothing.
-use Prim.Native.Nat.{◌-◌, ◌≤◌}
 use mathlib.Core.Path.{◌≡◌}
 use lib.Seq.{slice}
 use Rattle.kernel.specs.Pairs.{sum}

@@ -2,7 +2,7 @@
 use Rattle.std.proofs.Common.{ap, ◌∙◌, sym, length}
 use Rattle.reply.proofs.Answers.{left_refused, left_done}
 use Rattle.walk.specs.declared.Answer.{Answer}
-use Rattle.walk.specs.Answer.{answer_of, row_of, out_left}
+use Rattle.walk.specs.Answer.{row_of, out_left}
 use Rattle.walk.proofs.Answers.{accepted, answer_reply}
 use Rattle.walk.proofs.read_cuts_to.Goals as goal
 
