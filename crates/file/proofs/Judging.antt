@@ -93,4 +93,4 @@ module _ (c : Contents) (s : List ℕ) where
           in_limit = omega (arith, walking_room);
         }
 
-pub ruleset walking = (walking_begun, walking_stop, walking_room, walking_more, walking_done)
+pub ruleset walking = (walking_begun, walking_room, walking_more, walking_done)
