@@ -15,7 +15,7 @@ pub(crate) struct Widths {
 }
 
 // An entry of the contents, its offset aside: the term number, what is asked of the record, and how many observations it has.
-#[derive(Clone, Copy)]
+#[derive(Clone, Copy, Debug, PartialEq, Eq)]
 pub struct Entry {
     pub term: u64,
     pub asked: Asked,

@@ -14,7 +14,7 @@ use crate::{contents, layout, limits};
 use reply::{Reason, Refusal};
 
 // A record of a file: its entry, and where in the file its body begins and ends.
-#[derive(Clone, Copy)]
+#[derive(Clone, Copy, Debug, PartialEq, Eq)]
 pub struct Found {
     pub entry: Entry,
     pub from: usize,

@@ -101,7 +101,7 @@ fn put_file(entries: &[u8], bodies: &[u8], out: &mut [u8])
 }
 
 // Writes the file of what is lent to `out`, or refuses and writes nothing.
-#[tactic(auto, using(crate::proofs::Writing::left))]
+#[tactic(auto, using(reply::proofs::Answers::left))]
 pub fn write_file(entries: &[u8], bodies: &[u8], out: &mut [u8]) -> Result<(), Refusal>
     ensures reply { reply_of result ≡ write_reply entries.now bodies.now (length out.old) }
     ensures output { out.new ≡ file_left entries.now bodies.now out.old }

@@ -18,14 +18,14 @@ const NO_COST: u64 = 0xffff_ffff_ffff_ffff;
 
 const NO_START: usize = 0xffff;
 
-#[derive(Clone, Copy)]
+#[derive(Clone, Copy, Debug, PartialEq, Eq)]
 pub struct Best {
     pub cost: u64,
     pub start: usize,
 }
 
 // The size of the two tables: dmax rows, each of n + 1 columns.
-#[derive(Clone, Copy)]
+#[derive(Clone, Copy, Debug, PartialEq, Eq)]
 pub struct Size {
     pub n: usize,
     pub dmax: usize,

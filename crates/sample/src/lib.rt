@@ -23,7 +23,7 @@ const SMALLEST: i64 = -1000000;
 // The level of the sample 0.
 pub const ZERO_LEVEL: usize = 1000000;
 
-#[derive(Clone, Copy)]
+#[derive(Clone, Copy, Debug)]
 pub enum Sample {
     Count(i64),
     Share(f64),
