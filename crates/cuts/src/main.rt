@@ -14,16 +14,14 @@ use std::io::Read;
 // One byte more than the longest file has.
 const INPUT_ROOM: usize = 65537;
 
-// Writes out a text that stands at the front of a buffer, and answers whether all of it went.
-fn print_text(rt: &impl Print, w: Result<usize, TooShort>, text: &[u8]) -> bool {
-    let Ok(n) = w else {
-        return false;
-    };
-    n <= text.len() && rt.write_all(&text[..n]).is_ok()
+// Writes out a text that stands at the front of a buffer, if it can be written.
+fn print_text(rt: &impl Print, w: Result<usize, TooShort>, text: &[u8]) -> Option<()> {
+    let n = w.ok()?;
+    rt.write_all(text.get(..n)?).ok()
 }
 
 // The lines of entry i.
-fn print_term(rt: &impl Print, file: &[u8], i: usize) -> bool
+fn print_term(rt: &impl Print, file: &[u8], i: usize) -> Option<()>
     requires { ((read_reply file.now).code ≡ 0) × (i < count_in file.now) }
 {
     let mut text = [0u8; report::TEXT_ROOM];
@@ -32,24 +30,23 @@ fn print_term(rt: &impl Print, file: &[u8], i: usize) -> bool
 }
 
 // The lines of all terms, to the first that cannot be written.
-fn print_terms(rt: &impl Print, file: &[u8])
+fn print_terms(rt: &impl Print, file: &[u8]) -> Option<()>
     requires { (read_reply file.now).code ≡ 0 }
 {
     for i in 0..file::count_of(file) {
-        if !print_term(rt, file, i) {
-            return;
-        }
+        print_term(rt, file, i)?;
     }
+    Some(())
 }
 
-fn print_file(rt: &impl Print, file: &[u8]) {
+// The line of a refused file, or the lines of all terms.
+fn print_file(rt: &impl Print, file: &[u8]) -> Option<()> {
     if let Err(refusal) = file::read_file(file) {
         let mut line = [0u8; report::LINE_ROOM];
         let w = report::file_line(Reply::from(refusal), &mut line);
-        print_text(rt, w, &line);
-        return;
+        return print_text(rt, w, &line);
     }
-    print_terms(rt, file);
+    print_terms(rt, file)
 }
 
 // Reads until the buffer is full, the input ends or a read fails, and answers how many bytes stand at its front.
@@ -58,10 +55,7 @@ fn read_full(input: &mut impl Read, buf: &mut [u8]) -> usize
 {
     let mut done = 0;
     while done < buf.len() {
-        let n = match input.read(&mut buf[done..]) {
-            Ok(n) => n,
-            Err(_) => 0,
-        };
+        let n = input.read(&mut buf[done..]).unwrap_or(0);
         if n == 0 {
             break;
         }

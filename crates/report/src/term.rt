@@ -12,7 +12,7 @@ ghost use Rattle.report.specs.Written.{written_of, out_left};
 use crate::line::Line;
 use crate::written::TooShort;
 use crate::{line, written};
-use record::Asked;
+use record::Record;
 use reply::Reply;
 use text::Text;
 use walk::Sought;
@@ -31,19 +31,12 @@ pub const TEXT_ROOM: usize = 6200;
 
 pub const LINE_ROOM: usize = 96;
 
-// A term's number, and what is asked of its record.
-#[derive(Clone, Copy)]
-struct Term {
-    number: u64,
-    asked: Asked,
-}
-
 // The line for k + 1 segments, off tables that a solve has filled.
-fn line_at(asked: Asked, body: &[u8], costs: &[u8], starts: &[u8], k: usize) -> Line
-    requires { Read asked body.now (length costs.now) k }
-    ensures { result ≡ line_at asked body.now costs.now starts.now k }
+fn line_at(record: &Record, costs: &[u8], starts: &[u8], k: usize) -> Line
+    requires { Read record.now.asked record.now.body.now (length costs.now) k }
+    ensures { result ≡ line_at record.now.asked record.now.body.now costs.now starts.now k }
 {
-    let n = body.len() / record::OBSERVATION_BYTES;
+    let n = record.observations();
     let cost = table::load(
         costs,
         cutting::COST_BYTES * (k * (n + 1) + n),
@@ -53,7 +46,7 @@ fn line_at(asked: Asked, body: &[u8], costs: &[u8], starts: &[u8], k: usize) -> 
     let sought = Sought {
         n,
         d,
-        kernel: asked.kernel,
+        kernel: record.asked.kernel,
     };
     let a = walk::read_cuts(sought, starts);
     let starts = a.starts;
@@ -62,26 +55,25 @@ fn line_at(asked: Asked, body: &[u8], costs: &[u8], starts: &[u8], k: usize) -> 
 
 // All lines of a term, with tables lent for its solve.
 #[tactic(auto, using(crate::proofs::Solved::refused_lines, text::proofs::Pieces::retell))]
-fn put_lines(text: &mut Text, term: Term, body: &[u8], costs: &mut [u8], starts: &mut [u8])
+fn put_lines(text: &mut Text, term: u64, record: &Record, costs: &mut [u8], starts: &mut [u8])
     requires { (text.old.end + lines_length < farthest) × (length costs.old ≡ cost_room) × (length starts.old ≡ start_room) }
-    ensures { Grown text.old (lines_of term.number term.asked body.now) text.new }
+    ensures { Grown text.old (lines_of term record.now.asked record.now.body.now) text.new }
 {
-    let asked = term.asked;
-    let solved = engine::solve(asked, body, costs, starts);
-    line::put_head(text, term.number, Reply::from(solved));
+    let solved = engine::solve(record, costs, starts);
+    line::put_head(text, term, Reply::from(solved));
     if solved.is_err() {
         return;
     }
-    for k in 0..asked.dmax {
-        let l = line_at(asked, body, costs, starts, k);
-        line::put_line(text, body, l);
+    for k in 0..record.asked.dmax {
+        let l = line_at(record, costs, starts, k);
+        line::put_line(text, record.body, l);
     }
 }
 
-// Writes the lines of a term: its number, what is asked of its record, and the record's body.
-pub fn lines(term: u64, asked: Asked, body: &[u8], out: &mut [u8]) -> Result<usize, TooShort>
-    ensures value { result ≡ written_of (lines_of term asked body.now) (length out.old) }
-    ensures out_after { out.new ≡ out_left (lines_of term asked body.now) out.old }
+// Writes the lines of a term: its number, and its record.
+pub fn lines(term: u64, record: &Record, out: &mut [u8]) -> Result<usize, TooShort>
+    ensures value { result ≡ written_of (lines_of term record.now.asked record.now.body.now) (length out.old) }
+    ensures out_after { out.new ≡ out_left (lines_of term record.now.asked record.now.body.now) out.old }
 {
     let mut costs = [0u8; COST_ROOM];
     let mut starts = [0u8; START_ROOM];
@@ -90,11 +82,7 @@ pub fn lines(term: u64, asked: Asked, body: &[u8], out: &mut [u8]) -> Result<usi
         room: &mut room,
         end: 0,
     };
-    let titled = Term {
-        number: term,
-        asked,
-    };
-    put_lines(&mut text, titled, body, &mut costs, &mut starts);
+    put_lines(&mut text, term, record, &mut costs, &mut starts);
     written::hand_over(&text, out)
 }
 
@@ -105,11 +93,11 @@ pub fn term_lines(file: &[u8], i: usize, out: &mut [u8]) -> Result<usize, TooSho
     ensures out_after { out.new ≡ out_left (item_text (item_at file.now i)) out.old }
 {
     let found = file::record_of(file, i);
-    let from = found.from;
-    let end = found.end;
-    let e = found.entry;
-    let asked = e.asked;
-    lines(e.term, asked, &file[from..end], out)
+    let record = Record {
+        asked: found.entry.asked,
+        body: &file[found.from..found.end],
+    };
+    lines(found.entry.term, &record, out)
 }
 
 // Writes the one line of a refused file.

@@ -27,17 +27,17 @@ pub returns-in_err-judge_data-clause-reply : goal.returns-in_err-judge_data-clau
 unfolding solve_reply
 returns-in_err-judge_data-clause-reply c =
     refusal_handed _ _ _ c.from_residual-in_err-judge_data.ensures.1
-    (search (answers, c.in_ok-kernel.ensures.reply, c.in_err-judge_data.ensures))
+    (search (answers, c.in_ok-kernel.ensures.reply, (rw c.observations-n.ensures at c.in_err-judge_data.ensures)))
 
 pub returns-in_err-judge_total-clause-reply : goal.returns-in_err-judge_total-clause-reply
 returns-in_err-judge_total-clause-reply c =
     let a = c.args in
-    let shape = shape_clear a.asked (length a.body.now) a.costs a.starts c.in_ok-kernel.ensures.reply in
-    let rest = data_clear a.asked a.body.now c.in_ok-judge_data.ensures in
-    absurd (some_number _ (never_total a.asked a.body.now a.costs a.starts shape rest _ c.in_err-judge_total.ensures))
+    let shape = shape_clear a.record.now.asked (length a.record.now.body.now) a.costs a.starts c.in_ok-kernel.ensures.reply in
+    let rest = data_clear a.record.now.asked a.record.now.body.now (rw c.observations-n.ensures at c.in_ok-judge_data.ensures) in
+    absurd (some_number _ (never_total a.record.now.asked a.record.now.body.now a.costs a.starts shape rest _ (rw c.observations-n.ensures at c.in_err-judge_total.ensures)))
 
 pub returns-clause-reply : goal.returns-clause-reply
 returns-clause-reply c =
     let a = c.args in
-    last_try a.asked a.body.now a.costs a.starts
-    (shape_clear a.asked (length a.body.now) a.costs a.starts c.in_ok-kernel.ensures.reply) (data_clear a.asked a.body.now c.in_ok-judge_data.ensures)
+    last_try a.record.now.asked a.record.now.body.now a.costs a.starts
+    (shape_clear a.record.now.asked (length a.record.now.body.now) a.costs a.starts c.in_ok-kernel.ensures.reply) (data_clear a.record.now.asked a.record.now.body.now (rw c.observations-n.ensures at c.in_ok-judge_data.ensures))

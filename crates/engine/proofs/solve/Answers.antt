@@ -25,15 +25,19 @@ count : (n : ℕ) → n ≤ most_observations → length (take {A = ℕ} n (repl
 count n few = length-take-le n (replicate most_observations 0) few
 
 -- what is read into that room are the record's levels
-module _ {asked : Asked} {body : List ℕ} {costs starts : ℕ} (ok : Accepted asked body costs starts) where
+module _ {asked : Asked} {body : List ℕ} {costs starts n : ℕ} (ok : Accepted asked body costs starts) (whole : n ≡ observations body) where
+  few : n ≤ most_observations
+  few = omega (arith, ok.fit.count.few_days)
+
   abbrev room : ℕ
-  room = length (take {A = ℕ} (observations body) (replicate most_observations 0))
+  room = length (take {A = ℕ} n (replicate most_observations 0))
 
   read : (out : List ℕ) → length out ≡ room → ((i : ℕ) → i < room → get_or out i 0 ≡ level_number (level_of (judged_at asked body i))) →
       (length out ≡ observations body) × (out ≡ levels_of asked body)
   read out same at =
-      let full = count _ ok.fit.count.few_days in
-      (same ∙ full, levels_are asked body (all_whole ok) out (same ∙ full) (λ i b. at i (rw full b)))
+      let full = count n few in
+      let long = same ∙ full ∙ whole in
+      (long, levels_are asked body (all_whole ok) out long (λ i b. at i (omega (arith, full))))
 
 pub returns-in_err-kernel-clause-costs_after : goal.returns-in_err-kernel-clause-costs_after
 unfolding costs_left
@@ -44,21 +48,21 @@ unfolding starts_left
 returns-in_err-kernel-clause-starts_after c = left_refused _ _ _ _ _ _ c.in_err-kernel.ensures.reply
 
 pub slice_bounds-room-end : goal.slice_bounds-room-end
-slice_bounds-room-end c = (fits _ _ _ _ c.in_ok-kernel.ensures.reply).fit.count.few_days
+slice_bounds-room-end c = few (fits _ _ _ _ c.in_ok-kernel.ensures.reply) c.observations.ensures
 
 pub slice_bounds-levels-end : goal.slice_bounds-levels-end
-slice_bounds-levels-end c = sym (count _ (fits _ _ _ _ c.in_ok-kernel.ensures.reply).fit.count.few_days)
+slice_bounds-levels-end c = sym (count _ (few (fits _ _ _ _ c.in_ok-kernel.ensures.reply) c.observations.ensures))
 
 pub fill_tables-requires-clause-lent : goal.fill_tables-requires-clause-lent
 fill_tables-requires-clause-lent c =
     let ok = fits _ _ _ _ c.in_ok-kernel.ensures.reply in
-    let r = read ok _ c.read_levels.auto.out c.read_levels.ensures in
+    let r = read ok c.observations.ensures _ c.read_levels.auto.out c.read_levels.ensures in
     rw r.0 (ok.fit.count.few_days, ok.fit.segments.few_segments, costs_space ok, starts_space ok)
 
 pub fill_tables-requires-clause-levels : goal.fill_tables-requires-clause-levels
 fill_tables-requires-clause-levels c =
     let ok = fits _ _ _ _ c.in_ok-kernel.ensures.reply in
-    let r = read ok _ c.read_levels.auto.out c.read_levels.ensures in
+    let r = read ok c.observations.ensures _ c.read_levels.auto.out c.read_levels.ensures in
     λ i b. rw r.1 (levels_small _ _ (all_whole ok) i (omega (arith, r.0)))
 
 pub returns-clause-costs_after : goal.returns-clause-costs_after
@@ -66,7 +70,7 @@ unfolding costs_left
 returns-clause-costs_after c =
     let done = c.in_ok-kernel.ensures in
     let ok = fits _ _ _ _ done.reply in
-    let r = read ok _ c.read_levels.auto.out c.read_levels.ensures in
+    let r = read ok c.observations.ensures _ c.read_levels.auto.out c.read_levels.ensures in
     c.fill_tables.ensures.costs_after ∙ costs_filled _ _ (all_whole ok) _ done.kernel _ r.1 _ ∙ left_done _ _ _ done.reply
 
 pub returns-clause-starts_after : goal.returns-clause-starts_after
@@ -74,5 +78,5 @@ unfolding starts_left
 returns-clause-starts_after c =
     let done = c.in_ok-kernel.ensures in
     let ok = fits _ _ _ _ done.reply in
-    let r = read ok _ c.read_levels.auto.out c.read_levels.ensures in
+    let r = read ok c.observations.ensures _ c.read_levels.auto.out c.read_levels.ensures in
     c.fill_tables.ensures.starts_after ∙ starts_filled _ _ (all_whole ok) _ done.kernel _ r.1 _ ∙ left_done _ _ _ done.reply

@@ -11,27 +11,27 @@ pub returns-in_err-judge_count-clause-reply : goal.returns-in_err-judge_count-cl
 unfolding summary_reply
 returns-in_err-judge_count-clause-reply c =
     reason_told _ _ _ c.from_residual-in_err-judge_count.ensures.1
-    (search (answers, c.in_ok-judge_lent.ensures, c.in_err-judge_count.ensures))
+    (search (answers, c.in_ok-judge_lent.ensures, (rw c.observations-n.ensures at c.in_err-judge_count.ensures)))
 
 pub returns-in_err-kernel-clause-reply : goal.returns-in_err-kernel-clause-reply
 unfolding summary_reply
 returns-in_err-kernel-clause-reply c =
     reason_told _ _ _ c.from_residual-in_err-kernel.ensures.1
-    (search (answers, c.in_ok-judge_lent.ensures, c.in_ok-judge_count.ensures, c.in_err-kernel.ensures.reply))
+    (search (answers, c.in_ok-judge_lent.ensures, (rw c.observations-n.ensures at c.in_ok-judge_count.ensures), c.in_err-kernel.ensures.reply))
 
 pub returns-in_err-judge_data-clause-reply : goal.returns-in_err-judge_data-clause-reply
 unfolding summary_reply
 returns-in_err-judge_data-clause-reply c =
     refusal_handed _ _ _ c.from_residual-in_err-judge_data.ensures.1
-    (search (answers, c.in_ok-judge_lent.ensures, c.in_ok-judge_count.ensures, c.in_ok-kernel.ensures.reply, c.in_err-judge_data.ensures))
+    (search (answers, c.in_ok-judge_lent.ensures, (rw c.observations-n.ensures at c.in_ok-judge_count.ensures), c.in_ok-kernel.ensures.reply, (rw c.observations-n.ensures at c.in_err-judge_data.ensures)))
 
 pub returns-in_err-judge_within-clause-reply : goal.returns-in_err-judge_within-clause-reply
 unfolding summary_reply
 returns-in_err-judge_within-clause-reply c =
     reason_told _ _ _ c.from_residual-in_err-judge_within.ensures.1
-    (search (answers, c.in_ok-judge_lent.ensures, c.in_ok-judge_count.ensures, c.in_ok-kernel.ensures.reply, c.in_ok-judge_data.ensures, c.in_err-judge_within.ensures))
+    (search (answers, c.in_ok-judge_lent.ensures, (rw c.observations-n.ensures at c.in_ok-judge_count.ensures), c.in_ok-kernel.ensures.reply, (rw c.observations-n.ensures at c.in_ok-judge_data.ensures), (rw c.observations-n.ensures at c.in_err-judge_within.ensures)))
 
 pub returns-clause-reply : goal.returns-clause-reply
 unfolding summary_reply
 returns-clause-reply c =
-    search (answers, c.in_ok-judge_lent.ensures, c.in_ok-judge_count.ensures, c.in_ok-kernel.ensures.reply, c.in_ok-judge_data.ensures, c.in_ok-judge_within.ensures)
+    search (answers, c.in_ok-judge_lent.ensures, (rw c.observations-n.ensures at c.in_ok-judge_count.ensures), c.in_ok-kernel.ensures.reply, (rw c.observations-n.ensures at c.in_ok-judge_data.ensures), (rw c.observations-n.ensures at c.in_ok-judge_within.ensures))

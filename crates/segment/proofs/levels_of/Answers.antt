@@ -23,16 +23,16 @@ module _ (asked : Asked) (body : List ℕ) (first len : ℕ) (stretch : Stretch 
   added_fits = omega (arith, added, added_small asked body first len stretch (i + 1) (omega arith))
 
 pub loop-i-init : goal.loop-i-init
-loop-i-init c = none_added c.args.asked c.args.body.now c.args.first.0 c.args.len c.requires
+loop-i-init c = none_added c.args.record.now.asked c.args.record.now.body.now c.args.first.0 c.args.len c.requires
 
 pub overflow_add-total : goal.overflow_add-total
 overflow_add-total c =
     let a = c.args in
     let l = c.loop-i in
-    omega (arith, added_fits a.asked a.body.now a.first.0 a.len c.requires l.i l.total l.auto.i c.loop-i-test.true l.invariant _ c.level_at.ensures _ c.unwrap_or-total.ensures)
+    omega (arith, added_fits a.record.now.asked a.record.now.body.now a.first.0 a.len c.requires l.i l.total l.auto.i c.loop-i-test.true l.invariant _ c.level_at.ensures _ c.unwrap_or-total.ensures)
 
 pub loop-i-preserved : goal.loop-i-preserved
 loop-i-preserved c =
     let a = c.args in
     let l = c.loop-i in
-    added a.asked a.body.now a.first.0 a.len c.requires l.i l.total l.auto.i c.loop-i-test.true l.invariant _ c.level_at.ensures _ c.unwrap_or-total.ensures
+    added a.record.now.asked a.record.now.body.now a.first.0 a.len c.requires l.i l.total l.auto.i c.loop-i-test.true l.invariant _ c.level_at.ensures _ c.unwrap_or-total.ensures

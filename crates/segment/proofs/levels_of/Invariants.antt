@@ -8,4 +8,4 @@ use Rattle.record.specs.Body.{samples}
 use Rattle.segment.proofs.levels_of.Given as goal
 
 abbrev pub invariant-loop-i : goal.invariant-loop-i
-invariant-loop-i l = l.total ≡ sum level (slice l.start l.i (samples l.asked l.body))
+invariant-loop-i l = l.total ≡ sum level (slice l.start l.i (samples l.record.asked l.record.body.now))

@@ -49,15 +49,15 @@ module _ (asked : Asked) (body : List ℕ) (first len : ℕ) (stretch : Stretch 
 pub overflow_cast-result : goal.overflow_cast-result
 overflow_cast-result c =
     let a = c.args in
-    omega (arith, levels_fit a.asked a.body.now a.first.0 a.len c.requires _ c.levels_of-levels.ensures)
+    omega (arith, levels_fit a.record.now.asked a.record.now.body.now a.first.0 a.len c.requires _ c.levels_of-levels.ensures)
 
 pub overflow_sub-result : goal.overflow_sub-result
 overflow_sub-result c =
     let a = c.args in
-    sum_fits a.asked a.body.now a.first.0 a.len c.requires _ c.levels_of-levels.ensures
+    sum_fits a.record.now.asked a.record.now.body.now a.first.0 a.len c.requires _ c.levels_of-levels.ensures
 
 pub returns : goal.returns
 returns c =
     let a = c.args in
-    to_z-of_z w64 _ (sum_fits a.asked a.body.now a.first.0 a.len c.requires _ c.levels_of-levels.ensures)
-    ∙ is_sum a.asked a.body.now a.first.0 a.len c.requires _ c.levels_of-levels.ensures
+    to_z-of_z w64 _ (sum_fits a.record.now.asked a.record.now.body.now a.first.0 a.len c.requires _ c.levels_of-levels.ensures)
+    ∙ is_sum a.record.now.asked a.record.now.body.now a.first.0 a.len c.requires _ c.levels_of-levels.ensures

@@ -10,7 +10,7 @@ returns-in_err-kernel c = summed_refused _ _ _ _ _ _ c.from_residual.ensures.1 c
 pub summary_of-requires-clause-stretch : goal.summary_of-requires-clause-stretch
 summary_of-requires-clause-stretch c =
     let a = c.args in
-    ((accepted a.asked a.body.now a.first.0 a.len).0 (ap (λ (r : Reply). r.code) (sym c.in_ok-kernel.ensures.reply))).stretch
+    ((accepted a.record.now.asked a.record.now.body.now a.first.0 a.len).0 (ap (λ (r : Reply). r.code) (sym c.in_ok-kernel.ensures.reply))).stretch
 
 pub returns : goal.returns
 returns c = summed_done _ _ _ _ c.in_ok-kernel.ensures.reply _ c.summary_of.ensures

@@ -34,7 +34,7 @@ mean_of-mean-requires c =
     let a = c.args in
     let s = c.requires.stretch in
     let is = back c.sum_of-sum.result _ (record { sfits = c.sum_of-sum.type_inv }) c.sum_of-sum.ensures in (
-      subst (λ (z : ℤ). nat_abs z ≤ most_sum) (sym is) (sum_small a.asked a.body.now a.first.0 a.len s),
+      subst (λ (z : ℤ). nat_abs z ≤ most_sum) (sym is) (sum_small a.record.now.asked a.record.now.body.now a.first.0 a.len s),
       omega (arith, s.within, s.few),
     )
 

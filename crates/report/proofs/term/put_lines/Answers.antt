@@ -30,7 +30,7 @@ unfolding table_lines
 loop-k-init c =
     let s = c.args in
     record {
-      accepted = term.accepted s.term.number s.term.asked s.body.now s.costs.now s.starts.now c.requires.1 c.requires.2
+      accepted = term.accepted s.term s.record.now.asked s.record.now.body.now s.costs.now s.starts.now c.requires.1 c.requires.2
           c.from.result (c.from.ensures ∙ c.solve-solved.ensures.reply) (zero _ c.from.ensures c.is_err.ensures.value c.if-is_err.false);
       put = grown_nothing _;
       upper_bound = omega arith;
@@ -45,7 +45,7 @@ pub put_line-requires : goal.put_line-requires
 put_line-requires c =
     let few = c.loop-k.invariant.accepted.fit.segments.few_segments in
     let d_is : c.line_at-l.result.d ≡ c.loop-k.k + 1 = ap (λ (x : Line). x.d) c.line_at-l.ensures in (
-      omega (arith, head_length_lem c.args.term.number c.from.result),
+      omega (arith, head_length_lem c.args.term c.from.result),
       omega arith,
       omega arith,
       ap (λ (x : Line). length x.starts) c.line_at-l.ensures ∙ answer_length _ _ _,
@@ -54,20 +54,20 @@ put_line-requires c =
 pub loop-k-preserved : goal.loop-k-preserved
 loop-k-preserved c = record {
   accepted = c.loop-k.invariant.accepted;
-  put = retell (lines_more c.args.term.asked c.args.body.now _ _ c.loop-k.k _ c.line_at-l.ensures) (grown c.loop-k.invariant.put c.put_line.ensures.put);
+  put = retell (lines_more c.args.record.now.asked c.args.record.now.body.now _ _ c.loop-k.k _ c.line_at-l.ensures) (grown c.loop-k.invariant.put c.put_line.ensures.put);
   upper_bound = omega arith;
 }
 
 pub returns : goal.returns
 returns c =
     let a = c.args in
-    let asked = a.term.asked in
-    let body = a.body.now in
+    let asked = a.record.now.asked in
+    let body = a.record.now.body.now in
     let all : c.loop-k.k ≡ asked.dmax = omega arith in
     let t = c.solve-solved.ensures in
     retell
-    (ap (head_text a.term.number c.from.result ++◌)
+    (ap (head_text a.term c.from.result ++◌)
     (ap (table_lines asked body _ _) all ∙ ap₂ (λ x y. table_lines asked body x y asked.dmax) t.costs_after t.starts_after)
-    ∙ term.accepted_lines a.term.number asked body a.costs.now a.starts.now c.requires.1 c.requires.2
+    ∙ term.accepted_lines a.term asked body a.costs.now a.starts.now c.requires.1 c.requires.2
     c.from.result (c.from.ensures ∙ t.reply) (zero _ c.from.ensures c.is_err.ensures.value c.if-is_err.false))
     (grown c.put_head.ensures c.loop-k.invariant.put)

@@ -8,7 +8,7 @@ use Rattle.report.proofs.term.put_lines.Given as goal
 
 abbrev pub invariant-loop-k : goal.invariant-loop-k
 invariant-loop-k l = record {
-  accepted : Accepted l.asked l.body (length l.fn.costs) (length l.fn.starts);
-  put : Grown l.initial.text (table_lines l.asked l.body l.costs l.starts l.k) l.text;
+  accepted : Accepted l.record.asked l.record.body.now (length l.fn.costs) (length l.fn.starts);
+  put : Grown l.initial.text (table_lines l.record.asked l.record.body.now l.costs l.starts l.k) l.text;
   upper_bound : l.text.end ≤ l.initial.text.end + line_length * l.k;
 }

@@ -1,9 +1,9 @@
--- `record::judge_samples` meets its contract. The loop's invariant: what is left to try from i on gives the reply.
+-- `record::Record::judge_samples` meets its contract. The loop's invariant: what is left to try from i on gives the reply.
 -- Assumes nothing.
 use Rattle.std.proofs.Common.{◌∙◌, arith}
 use Rattle.reply.proofs.Answers.{each_refused, each_clear, each_end}
 use Rattle.record.proofs.Samples.{level_given, level_clear}
-use Rattle.record.proofs.judge_samples.Goals as goal
+use Rattle.record.proofs.Record.judge_samples.Goals as goal
 
 pub returns-in-Err : goal.returns-in-Err
 returns-in-Err c =

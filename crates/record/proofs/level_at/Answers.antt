@@ -1,7 +1,0 @@
--- `record::level_at` meets its contract. Assumes nothing.
-use Rattle.record.specs.Body.{judged_at}
-use Rattle.record.proofs.level_at.Goals as goal
-
-pub returns : goal.returns
-unfolding judged_at
-returns c = cc
