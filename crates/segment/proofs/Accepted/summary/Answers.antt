@@ -1,4 +1,4 @@
--- `segment::summary_of` meets its contract.
+-- `segment::Accepted::summary` meets its contract.
 use Rattle.std.proofs.Common.{◌≤◌, ◌≡◌, ℕ, sym, ap, ◌∙◌, subst, Some, true, false, eqb, arith}
 use lib.IntN.{ℤ, nat_abs}
 use lib.Ieee.{of_bits}
@@ -12,7 +12,7 @@ use Rattle.kernel.specs.Kernel.{number_of, named_of}
 use Rattle.kernel.proofs.Number.{number_named, named_number}
 use Rattle.segment.specs.Summary.{most_sum, mean_of, summary_of}
 use Rattle.segment.proofs.Sum.{sum_small}
-use Rattle.segment.proofs.summary_of.Goals as goal
+use Rattle.segment.proofs.Accepted.summary.Goals as goal
 
 -- the number that comes back is the sum
 back : (z t : ℤ) → SFits w64 z → z ≡ t → to_z w64 (of_z w64 z) ≡ t
@@ -27,14 +27,14 @@ other n k e not = ne_eqb n 2 (λ z. not (let s : Some k ≡ Some Spelling = sym 
 
 pub returns-in-Spelling : goal.returns-in-Spelling
 unfolding summary_of of_bits
-returns-in-Spelling c = rw (spelling _ _ c.requires.kernel c.in-Spelling.is)
+returns-in-Spelling c = rw (spelling _ _ c.args.self.now.named c.in-Spelling.is)
 
 pub mean_of-mean-requires : goal.mean_of-mean-requires
 mean_of-mean-requires c =
     let a = c.args in
-    let s = c.requires.stretch in
-    let is = back c.sum_of-sum.result _ (record { sfits = c.sum_of-sum.type_inv }) c.sum_of-sum.ensures in (
-      subst (λ (z : ℤ). nat_abs z ≤ most_sum) (sym is) (sum_small a.record.now.asked a.record.now.body.now a.first.0 a.len s),
+    let s = c.args.self.now.lies in
+    let is = back c.sum-sum.result _ (record { sfits = c.sum-sum.type_inv }) c.sum-sum.ensures in (
+      subst (λ (z : ℤ). nat_abs z ≤ most_sum) (sym is) (sum_small a.self.now.record.now.asked a.self.now.record.now.body.now a.self.now.first.0 a.self.now.len s),
       omega (arith, s.within, s.few),
     )
 
@@ -42,7 +42,7 @@ pub returns : goal.returns
 unfolding summary_of
 returns c =
     let a = c.args in
-    let total = back c.sum_of-sum.result _ (record { sfits = c.sum_of-sum.type_inv }) c.sum_of-sum.ensures in
-    let mean = c.mean_of-mean.ensures ∙ ap (λ (z : ℤ). mean_of z a.len) total in
-    rw (other _ _ c.requires.kernel c.in_default.not-Spelling)
-    (λ i. record { first = a.first; len = a.len; sum = total i; mean = mean i })
+    let total = back c.sum-sum.result _ (record { sfits = c.sum-sum.type_inv }) c.sum-sum.ensures in
+    let mean = c.mean_of-mean.ensures ∙ ap (λ (z : ℤ). mean_of z a.self.now.len) total in
+    rw (other _ _ c.args.self.now.named c.in_default.not-Spelling)
+    (λ i. record { first = a.self.now.first; len = a.self.now.len; sum = total i; mean = mean i })

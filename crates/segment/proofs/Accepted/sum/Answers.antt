@@ -1,4 +1,4 @@
--- `segment::sum_of` meets its contract.
+-- `segment::Accepted::sum` meets its contract.
 use Rattle.std.proofs.Common.{ℕ, List, ◌+◌, ◌*◌, ◌≤◌, ◌<◌, ◌^◌, ◌≡◌, sym, ap, ◌∙◌, arith}
 use mathlib.Core.Path.{ap₂}
 use lib.IntN.{ℤ, pos, negsuc, nat_abs, ◌+ℤ◌, ◌-ℤ◌}
@@ -13,7 +13,7 @@ use Rattle.record.specs.declared.Asked.{Asked}
 use Rattle.record.specs.Body.{samples}
 use Rattle.segment.specs.Summary.{Stretch, stretch_of, most_sum, sum_of}
 use Rattle.segment.proofs.Sum.{levels_small, sum_is, sum_small}
-use Rattle.segment.proofs.sum_of.Goals as goal
+use Rattle.segment.proofs.Accepted.sum.Goals as goal
 
 difference : (a b : ℕ) → pos a -ℤ pos b ≡ a ⊖ b
 difference a b =
@@ -49,15 +49,15 @@ module _ (asked : Asked) (body : List ℕ) (first len : ℕ) (stretch : Stretch 
 pub overflow_cast-result : goal.overflow_cast-result
 overflow_cast-result c =
     let a = c.args in
-    omega (arith, levels_fit a.record.now.asked a.record.now.body.now a.first.0 a.len c.requires _ c.levels_of-levels.ensures)
+    omega (arith, levels_fit a.self.now.record.now.asked a.self.now.record.now.body.now a.self.now.first.0 a.self.now.len c.args.self.now.lies _ c.levels-levels.ensures)
 
 pub overflow_sub-result : goal.overflow_sub-result
 overflow_sub-result c =
     let a = c.args in
-    sum_fits a.record.now.asked a.record.now.body.now a.first.0 a.len c.requires _ c.levels_of-levels.ensures
+    sum_fits a.self.now.record.now.asked a.self.now.record.now.body.now a.self.now.first.0 a.self.now.len c.args.self.now.lies _ c.levels-levels.ensures
 
 pub returns : goal.returns
 returns c =
     let a = c.args in
-    to_z-of_z w64 _ (sum_fits a.record.now.asked a.record.now.body.now a.first.0 a.len c.requires _ c.levels_of-levels.ensures)
-    ∙ is_sum a.record.now.asked a.record.now.body.now a.first.0 a.len c.requires _ c.levels_of-levels.ensures
+    to_z-of_z w64 _ (sum_fits a.self.now.record.now.asked a.self.now.record.now.body.now a.self.now.first.0 a.self.now.len c.args.self.now.lies _ c.levels-levels.ensures)
+    ∙ is_sum a.self.now.record.now.asked a.self.now.record.now.body.now a.self.now.first.0 a.self.now.len c.args.self.now.lies _ c.levels-levels.ensures

@@ -1,4 +1,4 @@
--- `segment::levels_of` meets its contract. The loop's invariant: the levels from the start to i are added.
+-- `segment::Accepted::levels` meets its contract. The loop's invariant: the levels from the start to i are added.
 use Rattle.std.proofs.Common.{ℕ, List, ◌+◌, ◌*◌, ◌≤◌, ◌<◌, ◌≡◌, ap, ◌∙◌, arith, Result}
 use lib.Seq.{slice}
 use Rattle.cutting.specs.Limits.{most_observations}
@@ -10,7 +10,7 @@ use Rattle.record.specs.declared.Asked.{Asked}
 use Rattle.record.specs.Body.{samples, judged_at, level_number}
 use Rattle.segment.specs.Summary.{Stretch}
 use Rattle.segment.proofs.Sum.{none_added, one_added, added_small}
-use Rattle.segment.proofs.levels_of.Goals as goal
+use Rattle.segment.proofs.Accepted.levels.Goals as goal
 
 -- the level at i is added to the levels before it
 module _ (asked : Asked) (body : List ℕ) (first len : ℕ) (stretch : Stretch asked body first len) (i total : ℕ)
@@ -23,16 +23,16 @@ module _ (asked : Asked) (body : List ℕ) (first len : ℕ) (stretch : Stretch 
   added_fits = omega (arith, added, added_small asked body first len stretch (i + 1) (omega arith))
 
 pub loop-i-init : goal.loop-i-init
-loop-i-init c = none_added c.args.record.now.asked c.args.record.now.body.now c.args.first.0 c.args.len c.requires
+loop-i-init c = none_added _ _ _ _ c.args.self.now.lies
 
 pub overflow_add-total : goal.overflow_add-total
 overflow_add-total c =
     let a = c.args in
     let l = c.loop-i in
-    omega (arith, added_fits a.record.now.asked a.record.now.body.now a.first.0 a.len c.requires l.i l.total l.auto.i c.loop-i-test.true l.invariant _ c.level_at.ensures _ c.unwrap_or-total.ensures)
+    omega (arith, added_fits a.self.now.record.now.asked a.self.now.record.now.body.now a.self.now.first.0 a.self.now.len c.args.self.now.lies l.i l.total l.auto.i c.loop-i-test.true l.invariant _ c.level_at.ensures _ c.unwrap_or-total.ensures)
 
 pub loop-i-preserved : goal.loop-i-preserved
 loop-i-preserved c =
     let a = c.args in
     let l = c.loop-i in
-    added a.record.now.asked a.record.now.body.now a.first.0 a.len c.requires l.i l.total l.auto.i c.loop-i-test.true l.invariant _ c.level_at.ensures _ c.unwrap_or-total.ensures
+    added a.self.now.record.now.asked a.self.now.record.now.body.now a.self.now.first.0 a.self.now.len c.args.self.now.lies l.i l.total l.auto.i c.loop-i-test.true l.invariant _ c.level_at.ensures _ c.unwrap_or-total.ensures
