@@ -5,8 +5,8 @@
 
 ghost use Rattle.std.specs.Prelude.{◌≡◌, ◌<◌, ◌≤◌, length};
 ghost use Rattle.file.specs.Contents.{count_in};
-ghost use Rattle.file.specs.Tries.{read_reply};
 
+use file::RecordFile;
 use reply::Reply;
 use report::TooShort;
 use std::io::Read;
@@ -21,8 +21,8 @@ fn print_text(rt: &impl Print, w: Result<usize, TooShort>, text: &[u8]) -> Optio
 }
 
 // The lines of entry i.
-fn print_term(rt: &impl Print, file: &[u8], i: usize) -> Option<()>
-    requires { ((read_reply file.now).code ≡ 0) × (i < count_in file.now) }
+fn print_term(rt: &impl Print, file: &RecordFile, i: usize) -> Option<()>
+    requires { i < count_in file.now.bytes.now }
 {
     let mut text = [0u8; report::TEXT_ROOM];
     let w = report::term_lines(file, i, &mut text);
@@ -30,23 +30,23 @@ fn print_term(rt: &impl Print, file: &[u8], i: usize) -> Option<()>
 }
 
 // The lines of all terms, to the first that cannot be written.
-fn print_terms(rt: &impl Print, file: &[u8]) -> Option<()>
-    requires { (read_reply file.now).code ≡ 0 }
-{
-    for i in 0..file::count_of(file) {
+fn print_terms(rt: &impl Print, file: &RecordFile) -> Option<()> {
+    for i in 0..file.count() {
         print_term(rt, file, i)?;
     }
     Some(())
 }
 
 // The line of a refused file, or the lines of all terms.
-fn print_file(rt: &impl Print, file: &[u8]) -> Option<()> {
-    if let Err(refusal) = file::read_file(file) {
-        let mut line = [0u8; report::LINE_ROOM];
-        let w = report::file_line(Reply::from(refusal), &mut line);
-        return print_text(rt, w, &line);
+fn print_file(rt: &impl Print, bytes: &[u8]) -> Option<()> {
+    match file::read_file(bytes) {
+        Ok(file) => print_terms(rt, &file),
+        Err(refusal) => {
+            let mut line = [0u8; report::LINE_ROOM];
+            let w = report::file_line(Reply::from(refusal), &mut line);
+            print_text(rt, w, &line)
+        }
     }
-    print_terms(rt, file)
 }
 
 // Reads until the buffer is full, the input ends or a read fails, and answers how many bytes stand at its front.

@@ -1,16 +1,15 @@
 -- Record i of an accepted file, as the reader finds it. Assumes nothing.
-use Prim.Native.Nat.{ℕ, ◌+◌, ◌-◌, ◌^◌, ◌<◌}
+use Prim.Native.Nat.{ℕ, ◌+◌, ◌-◌, ◌≤◌, ◌<◌}
 use mathlib.Core.Path.{◌≡◌, refl, sym, ap, subst, ◌∙◌}
 use mathlib.Core.List.{List}
 use native.Mathlib.Omega.{arith}
 use lib.ListN.{take, drop}
-use Rattle.table.proofs.Num.{num_lt}
 use Rattle.file.specs.declared.layout.Entry.{Entry}
 use Rattle.file.specs.declared.contents.Contents.{Contents}
-use Rattle.file.specs.Limits.{offset_bytes}
+use Rattle.file.specs.Limits.{most_bytes}
 use Rattle.file.specs.Layout.{in_file, field, offset_at, size_of}
 use Rattle.file.specs.Contents.{count_in, filed, place_in, entry_in, due_in}
-use Rattle.file.specs.Items.{Bytes, Item, item_at}
+use Rattle.file.specs.Items.{Item, item_at}
 use Rattle.file.specs.Tries.{read_reply}
 use Rattle.file.specs.Steps.{Listed, Stands}
 use Rattle.file.specs.Sound.{Accepted}
@@ -24,14 +23,7 @@ offset_any : (f : List ℕ) (p d e : ℕ) → offset_at in_file f p d ≡ offset
 unfolding field
 offset_any f p d e = refl
 
-offset_lt : (f : List ℕ) → Bytes f → (p d : ℕ) → offset_at in_file f p d < 256 ^ offset_bytes
-unfolding field
-offset_lt f B p d = num_lt offset_bytes f _ B
-
 module _ (f : List ℕ) (c : Contents) (hc : c ≡ filed f) where
-  pub offset_small : Bytes f → (p due from : ℕ) → from ≡ offset_at c.widths f p due → from < 256 ^ offset_bytes
-  offset_small B p due from h = omega (arith, h ∙ ap (λ (x : Contents). offset_at x.widths f p due) hc, offset_lt f B p due)
-
   module _ (z : (read_reply f).code ≡ 0) (i : ℕ) (h : i < count_in f) where
     A : Accepted f
     A = (read_iff f).0 z
@@ -58,4 +50,9 @@ module _ (f : List ℕ) (c : Contents) (hc : c ≡ filed f) where
           within = omega (arith, regular_within (filed f) f A.regular i h);
         }
 
-pub ruleset records = (read_counted, found_listed, offset_small)
+    pub found_small :
+        (due : ℕ) (e : Entry) (from size : ℕ) → e ≡ entry_in c f i → from ≡ offset_at c.widths f (place_in c i) due → size ≡ size_of e →
+        from + size ≤ most_bytes
+    found_small due e from size he hf hs = omega (arith, (found due e from size he hf hs).within, A.short)
+
+pub ruleset records = (read_counted, found_listed)

@@ -13,6 +13,13 @@ use crate::layout::{Entry, Widths};
 use crate::{contents, layout, limits};
 use reply::{Reason, Refusal};
 
+// A file that the reader accepts.
+#[derive(Clone, Copy)]
+pub struct RecordFile<'a> {
+    pub bytes: &'a [u8],
+    pub ghost accepted: { (read_reply bytes.now).code ≡ 0 },
+}
+
 // A record of a file: its entry, and where in the file its body begins and ends.
 #[derive(Clone, Copy, Debug, PartialEq, Eq)]
 pub struct Found {
@@ -58,33 +65,37 @@ fn judge_head(file: &[u8]) -> Result<Contents, Reason>
     Ok(c)
 }
 
-// The reply to a file: done, or why it is refused.
+// Reads a file: it is accepted, or refused.
 #[tactic(auto, using(reply::proofs::Answers::answers), unfolding(crate::specs::Tries::read_tries))]
-pub fn read_file(file: &[u8]) -> Result<(), Refusal>
-    ensures { reply_of result ≡ read_reply file.now }
+pub fn read_file(file: &[u8]) -> Result<RecordFile<'_>, Refusal>
+    ensures reply { reply_of result ≡ read_reply file.now }
+    ensures bytes { IfOk result (λ f. f.bytes.now ≡ file.now) }
 {
     let c = judge_head(file)?;
-    c.judge(file)
+    c.judge(file)?;
+    Ok(RecordFile { bytes: file })
 }
 
-// How many records an accepted file has.
-#[tactic(auto, using(crate::proofs::Accepted::read_counted, crate::proofs::Accepted::read_few))]
-pub fn count_of(file: &[u8]) -> usize
-    requires { (read_reply file.now).code ≡ 0 }
-    ensures { (result ≡ count_in file.now) × (result ≤ most_records) }
-{
-    contents_of(file).count
-}
+impl RecordFile<'_> {
+    // How many records it has.
+    #[tactic(auto, using(crate::proofs::Accepted::read_counted, crate::proofs::Accepted::read_few))]
+    pub fn count(&self) -> usize
+        ensures { (result ≡ count_in self.now.bytes.now) × (result ≤ most_records) }
+    {
+        contents_of(self.bytes).count
+    }
 
-// Record i of an accepted file.
-#[tactic(auto, using(crate::proofs::Records::records))]
-pub fn record_of(file: &[u8], i: usize) -> Found
-    requires { ((read_reply file.now).code ≡ 0) × (i < count_in file.now) }
-    ensures { Stands result file.now i }
-{
-    let c = contents_of(file);
-    let entry = c.entry_in(file, i);
-    let from = c.offset_in(file, i, 0);
-    let end = from + entry.size_of();
-    Found { entry, from, end }
+    // Record i.
+    #[tactic(auto, using(crate::proofs::Records::records))]
+    pub fn record(&self, i: usize) -> Found
+        requires { i < count_in self.now.bytes.now }
+        ensures { Stands result self.now.bytes.now i }
+    {
+        let file = self.bytes;
+        let c = contents_of(file);
+        let entry = c.entry_in(file, i);
+        let from = c.offset_in(file, i, 0);
+        let end = from + entry.size_of();
+        Found { entry, from, end }
+    }
 }

@@ -2,7 +2,6 @@
 ghost use Rattle.std.specs.Prelude.{◌≡◌, ◌+◌, ◌<◌, length};
 ghost use Rattle.text.specs.Text.{Grown};
 ghost use Rattle.file.specs.Contents.{count_in};
-ghost use Rattle.file.specs.Tries.{read_reply};
 ghost use Rattle.file.specs.Items.{item_at};
 ghost use Rattle.report.specs.Limits.{farthest, lines_length, cost_room, start_room};
 ghost use Rattle.report.specs.Lines.{file_text, lines_of, item_text};
@@ -12,6 +11,7 @@ ghost use Rattle.report.specs.Written.{written_of, out_left};
 use crate::line::Line;
 use crate::written::TooShort;
 use crate::{line, written};
+use file::RecordFile;
 use record::Record;
 use reply::Reply;
 use text::Text;
@@ -87,15 +87,15 @@ pub fn lines(term: u64, record: &Record, out: &mut [u8]) -> Result<usize, TooSho
 }
 
 // Writes the lines of record i of an accepted file.
-pub fn term_lines(file: &[u8], i: usize, out: &mut [u8]) -> Result<usize, TooShort>
-    requires { ((read_reply file.now).code ≡ 0) × (i < count_in file.now) }
-    ensures value { result ≡ written_of (item_text (item_at file.now i)) (length out.old) }
-    ensures out_after { out.new ≡ out_left (item_text (item_at file.now i)) out.old }
+pub fn term_lines(file: &RecordFile, i: usize, out: &mut [u8]) -> Result<usize, TooShort>
+    requires { i < count_in file.now.bytes.now }
+    ensures value { result ≡ written_of (item_text (item_at file.now.bytes.now i)) (length out.old) }
+    ensures out_after { out.new ≡ out_left (item_text (item_at file.now.bytes.now i)) out.old }
 {
-    let found = file::record_of(file, i);
+    let found = file.record(i);
     let record = Record {
         asked: found.entry.asked,
-        body: &file[found.from..found.end],
+        body: &file.bytes[found.from..found.end],
     };
     lines(found.entry.term, &record, out)
 }
