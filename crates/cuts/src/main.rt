@@ -49,7 +49,7 @@ fn print_file(rt: &impl Print, bytes: &[u8]) -> Option<()> {
     }
 }
 
-// Reads until the buffer is full, the input ends or a read fails, and answers how many bytes stand at its front.
+// Reads until the buffer is full, the input ends or a read fails, and answers how many bytes stand at its front. Each turn goes on by what its read brings.
 fn read_full(input: &mut impl Read, buf: &mut [u8]) -> usize
     ensures { result ≤ length buf.new }
 {

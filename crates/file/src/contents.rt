@@ -13,7 +13,8 @@ use crate::layout::{Entry, Widths};
 use crate::{layout, limits};
 use reply::{Reason, Refusal};
 
-// Where entries stand: `count` of them from byte `from` on. Their bodies begin at `start` and are to end by `limit`.
+// Where entries stand: `count` of them from byte `from` on. Their bodies begin at `start` and are to end by `limit`. Which bytes they stand in is asked in
+// clauses (`Listed`): the definitions know contents without bytes.
 #[derive(Clone, Copy, Debug, PartialEq, Eq)]
 pub(crate) struct Contents {
     pub widths: Widths,

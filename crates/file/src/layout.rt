@@ -8,7 +8,8 @@ ghost use Rattle.file.specs.Steps.{Narrow};
 use crate::limits;
 use record::Asked;
 
-// A layout: the widths of the fields that not every layout has, 0 where there is no such field.
+// A layout: the widths of the fields that not every layout has, 0 where there is no such field. That they are `Narrow` is asked in clauses: `entry_back`
+// and `entry_kept` hold of every layout.
 #[derive(Clone, Copy, Debug, PartialEq, Eq)]
 pub(crate) struct Widths {
     pub offset: usize,

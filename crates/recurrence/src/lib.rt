@@ -18,6 +18,7 @@ const NO_COST: u64 = 0xffff_ffff_ffff_ffff;
 
 const NO_START: usize = 0xffff;
 
+// What a row's entries are to hold: the least cost and its start, or both marks, which are the tables' own numbers.
 #[derive(Clone, Copy, Debug, PartialEq, Eq)]
 pub struct Best {
     pub cost: u64,

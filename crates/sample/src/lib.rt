@@ -113,7 +113,7 @@ fn share_of(word: u64) -> f64
     f64::from_bits(word)
 }
 
-// The sample that 8 bytes of a body hold, as a little-endian word. Kind 0 is a count, and any other a share.
+// The sample that 8 bytes of a body hold, as a little-endian word. Kind 0 is a count, and any other number a share: `sample_of` is defined of every one.
 pub fn sample_of(kind: u64, word: u64) -> Sample
     ensures { result ≡ sample_of kind word }
 {

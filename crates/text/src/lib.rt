@@ -35,7 +35,7 @@ impl Text<'_> {
         }
     }
 
-    // The decimal digits of n, at most f of them.
+    // The decimal digits of n, at most f of them: it goes down as `digits` of the definitions does.
     #[tactic(auto, using(crate::proofs::Pieces::one_digit))]
     fn digits(&mut self, n: u64, f: usize)
         requires { (1 ≤ f) × (f ≤ 20) × (n < 10 ^ f) × (self.old.end + f < 2 ^ 32) }
