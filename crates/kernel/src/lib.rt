@@ -14,12 +14,12 @@ use reply::Reason;
 // So many units are one of R/m.
 const UNITS: u64 = 4096;
 
-// The three kernels, each with its number.
+// The three kernels.
 #[derive(Clone, Copy, Debug, PartialEq, Eq)]
 pub enum Kernel {
-    Linear = 1,
-    Spelling = 2,
-    Energy = 3,
+    Linear,
+    Spelling,
+    Energy,
 }
 
 // The kernel of a number; any other number than the three is 6.

@@ -1,5 +1,5 @@
 -- `segment::Accepted::levels` meets its contract. The loop's invariant: the levels from the start to i are added.
-use Rattle.std.proofs.Common.{ℕ, List, ◌+◌, ◌*◌, ◌≤◌, ◌<◌, ◌≡◌, ap, ◌∙◌, arith, Result}
+use Rattle.std.proofs.Common.{ℕ, List, ◌+◌, ◌*◌, ◌≤◌, ◌<◌, ◌≡◌, sym, ap, ◌∙◌, arith, Result}
 use lib.Seq.{slice}
 use Rattle.cutting.specs.Limits.{most_observations}
 use Rattle.kernel.specs.Pairs.{sum}
@@ -29,10 +29,10 @@ pub overflow_add-total : goal.overflow_add-total
 overflow_add-total c =
     let a = c.args in
     let l = c.loop-i in
-    omega (arith, added_fits a.self.now.record.now.asked a.self.now.record.now.body.now a.self.now.first.0 a.self.now.len c.args.self.now.lies l.i l.total l.auto.i c.loop-i-test.true l.invariant _ c.level_at.ensures _ c.unwrap_or-total.ensures)
+    omega (arith, added_fits a.self.now.record.now.asked a.self.now.record.now.body.now a.self.now.first.0 a.self.now.len c.args.self.now.lies l.i l.total l.auto.i c.loop-i-test.true l.invariant _ c.level_at.ensures _ (sym (ap level_number c.unwrap-total.ensures)))
 
 pub loop-i-preserved : goal.loop-i-preserved
 loop-i-preserved c =
     let a = c.args in
     let l = c.loop-i in
-    added a.self.now.record.now.asked a.self.now.record.now.body.now a.self.now.first.0 a.self.now.len c.args.self.now.lies l.i l.total l.auto.i c.loop-i-test.true l.invariant _ c.level_at.ensures _ c.unwrap_or-total.ensures
+    added a.self.now.record.now.asked a.self.now.record.now.body.now a.self.now.first.0 a.self.now.len c.args.self.now.lies l.i l.total l.auto.i c.loop-i-test.true l.invariant _ c.level_at.ensures _ (sym (ap level_number c.unwrap-total.ensures))

@@ -1,10 +1,10 @@
--- `segment::change_date` meets its contract.
+-- `segment::date_within` meets its contract.
 use Rattle.std.proofs.Common.{ℕ, List, ◌≡◌, sym, ap, arith}
 use Rattle.reply.specs.declared.Reply.{Reply}
 use Rattle.reply.specs.Reply.{done}
 use Rattle.segment.specs.Date.{DateAccepted, date_reply}
 use Rattle.segment.proofs.Start.{accepted, dated_done, dated_refused}
-use Rattle.segment.proofs.change_date.Goals as goal
+use Rattle.segment.proofs.date_within.Goals as goal
 
 -- the index is accepted
 taken : (days : List ℕ) (at : ℕ) → done ≡ date_reply days at → DateAccepted days at

@@ -1,8 +1,8 @@
--- `segment::summarize` meets its contract.
+-- `segment::summary_within` meets its contract.
 use Rattle.std.proofs.Common.{sym, ap}
 use Rattle.reply.specs.declared.Reply.{Reply}
 use Rattle.segment.proofs.Stretch.{accepted, summed_done, summed_refused}
-use Rattle.segment.proofs.summarize.Goals as goal
+use Rattle.segment.proofs.summary_within.Goals as goal
 
 pub returns-in_err-kernel : goal.returns-in_err-kernel
 returns-in_err-kernel c = summed_refused _ _ _ _ _ _ c.from_residual.ensures.1 c.in_err-kernel.ensures.reply
