@@ -9,7 +9,7 @@ use record::{Day, Index};
 use reply::Reply;
 use text::Text;
 
-// What a line says: a segment count, the cost in units, and the first index of each segment, unused places 0.
+// What a line says: a segment count, the cost in units, and the first index of each segment, unused places 0, as the answer to reading cuts has them.
 #[derive(Clone, Copy)]
 pub struct Line {
     pub d: usize,

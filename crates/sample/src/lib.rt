@@ -108,7 +108,7 @@ fn share_of(word: u64) -> f64
     ensures { result ≡ of_bits binary64 word }
 {
     if 0x7ff0_0000_0000_0000 < word % 0x8000_0000_0000_0000 {
-        return 0.0 / 0.0;
+        return f64::NAN;
     }
     f64::from_bits(word)
 }

@@ -1,5 +1,5 @@
 // Text in a lent buffer: bytes, words and decimal numbers, one behind the other. What passes the buffer's end is counted and not written.
-// Methods with contracts put it, since `Display` and `write!` promise nothing that a proof can use.
+// `write!` promises its bytes only where it answers `Ok`, and no clause says that it does; these methods promise theirs always.
 
 #![tactic(auto)]
 
@@ -35,7 +35,8 @@ impl Text<'_> {
         }
     }
 
-    // The decimal digits of n, at most f of them: it goes down as `digits` of the definitions does.
+    // The decimal digits of n, at most f of them: it goes down as `digits` of the definitions does. Two edits hold these lines, `digit_one_off` and
+    // `ten_as_one_digit`.
     #[tactic(auto, using(crate::proofs::Pieces::one_digit))]
     fn digits(&mut self, n: u64, f: usize)
         requires { (1 ≤ f) × (f ≤ 20) × (n < 10 ^ f) × (self.old.end + f < 2 ^ 32) }
