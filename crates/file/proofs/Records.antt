@@ -28,8 +28,8 @@ module _ (f : List ℕ) (c : Contents) (hc : c ≡ filed f) where
     A : Accepted f
     A = (read_iff f).0 z
 
-    pub found_listed : Listed c f × (i < c.count)
-    found_listed = subst (λ (x : Contents). Listed x f × (i < x.count)) (sym hc) (filed_listed f A.listed, h)
+    pub found_listed : Listed c f
+    found_listed = subst (λ (x : Contents). Listed x f) (sym hc) (filed_listed f A.listed)
 
     pub found :
         (due : ℕ) (e : Entry) (from size : ℕ) → e ≡ entry_in c f i → from ≡ offset_at c.widths f (place_in c i) due → size ≡ size_of e →
