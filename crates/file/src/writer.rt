@@ -81,12 +81,11 @@ fn put_contents(out: &mut [u8], lent: &Entries, start: usize)
     ensures { out.new ≡ laid out.old count_bytes (contents in_file start (entries_in lent.now.contents lent.now.bytes.now)) }
 {
     let w = Widths::in_file();
-    let mut p = limits::COUNT_BYTES;
     let mut at = start;
     for i in 0..lent.contents.count {
         let e = lent.entry(i);
-        layout::put_entry(out, p, w, e, at);
-        p += w.width();
+        // Entry i of a file begins where the contents of i records end.
+        layout::put_entry(out, contents::bodies_at(i), w, e, at);
         at += e.size_of();
     }
 }
