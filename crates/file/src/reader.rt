@@ -89,7 +89,7 @@ impl RecordFile<'_> {
     }
 
     // Record i.
-    #[tactic(auto, using(crate::proofs::Records::records))]
+    #[tactic(auto, using(crate::proofs::Accepted::read_counted))]
     pub fn record(&self, i: usize) -> Found
         requires { i < count_in self.now.bytes.now }
         ensures { Stands result self.now.bytes.now i }

@@ -4,7 +4,7 @@ use Rattle.file.proofs.Records.{found_listed, found, found_small}
 use Rattle.file.proofs.reader.RecordFile.record.Goals as goal
 
 pub invariant_of-entries : goal.invariant_of-entries
-invariant_of-entries c = record { listed = found_listed _ _ c.contents_of.ensures c.args.self.now.accepted _ c.requires }
+invariant_of-entries c = record { listed = found_listed _ _ c.contents_of.ensures c.args.self.now.accepted }
 
 pub overflow_add-end : goal.overflow_add-end
 overflow_add-end c =
