@@ -80,17 +80,17 @@ module _ (c : Contents) (s : List ℕ) where
           })
 
       module _ (g : done ≡ first_of (entry_tries c e offset due i)) where
-        pub walking_room : due.at + size_of e ≤ c.limit
+        walking_room : due.at + size_of e ≤ c.limit
         walking_room = (passed (entry_tries c e offset due i) (coded_entry c e offset due i) done g refl).1.1.1
 
-        pub walking_more : (size : ℕ) → size ≡ size_of e → Walking (i + 1) (record { floor = e.term + 1; at = due.at + size })
-        walking_more size hs = record {
+        pub walking_more : (at : ℕ) → at ≡ due.at + size_of e → Walking (i + 1) (record { floor = e.term + 1; at = at })
+        walking_more at ha = record {
           given = W.given;
           due_is =
-              (λ j. record { floor = (he j).term + 1; at = (W.due_is j).at + (hs ∙ ap size_of he) j })
+              (λ j. record { floor = (he j).term + 1; at = (ha ∙ (λ k. (W.due_is k).at + size_of (he k))) j })
               ∙ sym (due_next i);
           left = each_on (tries_in c s) 0 c.count i W.left h done (g ∙ tries_is) refl;
-          in_limit = omega (arith, walking_room);
+          in_limit = omega (arith, ha, walking_room);
         }
 
-pub ruleset walking = (walking_begun, walking_room, walking_more, walking_done)
+pub ruleset walking = (walking_begun, walking_more, walking_done)

@@ -1,10 +1,10 @@
 // The entries of a file, or those that are lent: where they stand, and how they are judged.
-ghost use Rattle.std.specs.Prelude.{◌≡◌, ◌≤◌, ◌<◌};
+ghost use Rattle.std.specs.Prelude.{◌≡◌, ◌+◌, ◌≤◌, ◌<◌, IfOk};
 ghost use Rattle.reply.specs.Reply.{refusal};
 ghost use Rattle.reply.specs.Refusal.{code_in, reply_of};
 ghost use Rattle.reply.specs.Tries.{first_of};
 ghost use Rattle.file.specs.Limits.{most_count};
-ghost use Rattle.file.specs.Layout.{offset_at, Fits};
+ghost use Rattle.file.specs.Layout.{offset_at, Fits, size_of};
 ghost use Rattle.file.specs.Contents.{bodies_at, place_in, entry_in, offset_field_in};
 ghost use Rattle.file.specs.Tries.{count_try, entry_tries, entries_tries};
 ghost use Rattle.file.specs.Steps.{Near, Listed, Judged};
@@ -13,8 +13,7 @@ use crate::layout::{Entry, Widths};
 use crate::{layout, limits};
 use reply::{Reason, Refusal};
 
-// Where entries stand: `count` of them from byte `from` on. Their bodies begin at `start` and are to end by `limit`. Which bytes they stand in is asked in
-// clauses (`Listed`): the definitions know contents without bytes.
+// Where entries stand: `count` of them from byte `from` on. Their bodies begin at `start` and are to end by `limit`.
 #[derive(Clone, Copy, Debug, PartialEq, Eq)]
 pub(crate) struct Contents {
     pub widths: Widths,
@@ -22,6 +21,14 @@ pub(crate) struct Contents {
     pub from: usize,
     pub start: usize,
     pub limit: usize,
+}
+
+// Contents, and the bytes that they stand in.
+#[derive(Clone, Copy)]
+pub(crate) struct Entries<'a> {
+    pub bytes: &'a [u8],
+    pub contents: Contents,
+    pub ghost listed: { Listed contents bytes.now },
 }
 
 // What is due of an entry: a term number of `floor` or more, and a body at `at`.
@@ -67,27 +74,12 @@ impl Contents {
         self.place_in(i) + limits::OFFSET_AT
     }
 
-    // Entry i.
-    pub(crate) fn entry_in(self, s: &[u8], i: usize) -> Entry
-        requires { Listed self s.now × (i < self.count) }
-        ensures { (result ≡ entry_in self s.now i) × Fits result }
-    {
-        layout::entry_at(s, self.place_in(i))
-    }
-
-    // The offset of entry i, whose body is due at `due`.
-    pub(crate) fn offset_in(self, s: &[u8], i: usize, due: usize) -> usize
-        requires { Listed self s.now × (i < self.count) }
-        ensures { result ≡ offset_at self.widths s.now (place_in self i) due }
-    {
-        layout::offset_at(s, self.place_in(i), self.widths, due)
-    }
-
-    // 23, 24, 22 and 28: entry i, by its fields, its offset, and what is due of it.
+    // 23, 24, 22 and 28: entry i, by its fields, its offset, and what is due of it; and where its body ends.
     #[tactic(auto, using(reply::proofs::Answers::answers))]
-    fn judge_entry(self, e: Entry, offset: usize, due: Due, i: usize) -> Result<(), Refusal>
+    fn judge_entry(self, e: Entry, offset: usize, due: Due, i: usize) -> Result<usize, Refusal>
         requires { Near self i × Fits e × (due.at ≤ self.limit) }
-        ensures { reply_of result ≡ first_of (entry_tries self e offset due i) }
+        ensures reply { reply_of result ≡ first_of (entry_tries self e offset due i) }
+        ensures ended { IfOk result (λ at. at ≡ due.at + size_of e) }
     {
         if e.term < due.floor {
             return Err(Reason::TermNotAbove.at(i as u64));
@@ -101,26 +93,45 @@ impl Contents {
         if self.limit - due.at < e.size_of() {
             return Err(Reason::BodyPastEnd.at_byte(i as u64, self.limit as u64));
         }
-        Ok(())
+        Ok(due.at + e.size_of())
+    }
+}
+
+impl Entries<'_> {
+    // Entry i.
+    pub(crate) fn entry(&self, i: usize) -> Entry
+        requires { i < self.now.contents.count }
+        ensures { (result ≡ entry_in self.now.contents self.now.bytes.now i) × Fits result }
+    {
+        layout::entry_at(self.bytes, self.contents.place_in(i))
+    }
+
+    // The offset of entry i, whose body is due at `due`.
+    pub(crate) fn offset(&self, i: usize, due: usize) -> usize
+        requires { i < self.now.contents.count }
+        ensures { result ≡ offset_at self.now.contents.widths self.now.bytes.now (place_in self.now.contents i) due }
+    {
+        let c = self.contents;
+        layout::offset_at(self.bytes, c.place_in(i), c.widths, due)
     }
 
     // All entries: where their bodies end.
     #[tactic(auto, using(crate::proofs::Judging::walking))]
-    fn judge_entries(self, s: &[u8]) -> Result<usize, Refusal>
-        requires { Listed self s.now }
-        ensures { Judged result self s.now }
+    fn judge_entries(&self) -> Result<usize, Refusal>
+        ensures { Judged result self.now.contents self.now.bytes.now }
     {
+        let c = self.contents;
         let mut due = Due {
             floor: 0,
-            at: self.start,
+            at: c.start,
         };
-        for i in 0..self.count {
-            let e = self.entry_in(s, i);
-            let offset = self.offset_in(s, i, due.at);
-            self.judge_entry(e, offset, due, i)?;
+        for i in 0..c.count {
+            let e = self.entry(i);
+            let offset = self.offset(i, due.at);
+            let at = c.judge_entry(e, offset, due, i)?;
             due = Due {
                 floor: e.term + 1,
-                at: due.at + e.size_of(),
+                at,
             };
         }
         Ok(due.at)
@@ -128,12 +139,11 @@ impl Contents {
 
     // All entries, then 25: bytes left over.
     #[tactic(auto, using(reply::proofs::Answers::answers))]
-    pub(crate) fn judge(self, s: &[u8]) -> Result<(), Refusal>
-        requires { Listed self s.now }
-        ensures { reply_of result ≡ first_of (entries_tries self s.now) }
+    pub(crate) fn judge(&self) -> Result<(), Refusal>
+        ensures { reply_of result ≡ first_of (entries_tries self.now.contents self.now.bytes.now) }
     {
-        let end = self.judge_entries(s)?;
-        let left = self.limit - end;
+        let end = self.judge_entries()?;
+        let left = self.contents.limit - end;
         if 0 < left {
             return Err(Reason::BytesLeftOver.into());
         }

@@ -8,7 +8,7 @@ ghost use Rattle.file.specs.Contents.{count_in, filed};
 ghost use Rattle.file.specs.Tries.{head_tries, read_reply};
 ghost use Rattle.file.specs.Steps.{Stands};
 
-use crate::contents::Contents;
+use crate::contents::{Contents, Entries};
 use crate::layout::{Entry, Widths};
 use crate::{contents, layout, limits};
 use reply::{Reason, Refusal};
@@ -45,11 +45,11 @@ fn contents_of(file: &[u8]) -> Contents
     }
 }
 
-// 26, 20 and 21: the head of a file, and where its entries stand.
+// 26, 20 and 21: the head of a file, and its entries.
 #[tactic(auto, using(reply::proofs::Answers::answers))]
-fn judge_head(file: &[u8]) -> Result<Contents, Reason>
+fn judge_head(file: &[u8]) -> Result<Entries<'_>, Reason>
     ensures reply { refusal (code_in result) 0 ≡ first_of (head_tries file.now) }
-    ensures contents { IfOk result (λ c. (c ≡ filed file.now) × (c.start ≤ length file.now)) }
+    ensures entries { IfOk result (λ l. (l.contents ≡ filed file.now) × (l.bytes.now ≡ file.now)) }
 {
     if limits::MOST_BYTES < file.len() {
         return Err(Reason::FileTooLong);
@@ -57,12 +57,15 @@ fn judge_head(file: &[u8]) -> Result<Contents, Reason>
     if file.len() < limits::COUNT_BYTES {
         return Err(Reason::FileTooShort);
     }
-    let c = contents_of(file);
-    contents::judge_count(c.count)?;
-    if file.len() < c.start {
+    let contents = contents_of(file);
+    contents::judge_count(contents.count)?;
+    if file.len() < contents.start {
         return Err(Reason::FileTooShort);
     }
-    Ok(c)
+    Ok(Entries {
+        bytes: file,
+        contents,
+    })
 }
 
 // Reads a file: it is accepted, or refused.
@@ -71,8 +74,8 @@ pub fn read_file(file: &[u8]) -> Result<RecordFile<'_>, Refusal>
     ensures reply { reply_of result ≡ read_reply file.now }
     ensures bytes { IfOk result (λ f. f.bytes.now ≡ file.now) }
 {
-    let c = judge_head(file)?;
-    c.judge(file)?;
+    let entries = judge_head(file)?;
+    entries.judge()?;
     Ok(RecordFile { bytes: file })
 }
 
@@ -86,15 +89,18 @@ impl RecordFile<'_> {
     }
 
     // Record i.
-    #[tactic(auto, using(crate::proofs::Records::records))]
+    #[tactic(auto, using(crate::proofs::Accepted::read_counted))]
     pub fn record(&self, i: usize) -> Found
         requires { i < count_in self.now.bytes.now }
         ensures { Stands result self.now.bytes.now i }
     {
-        let file = self.bytes;
-        let c = contents_of(file);
-        let entry = c.entry_in(file, i);
-        let from = c.offset_in(file, i, 0);
+        let entries = Entries {
+            bytes: self.bytes,
+            contents: contents_of(self.bytes),
+        };
+        let entry = entries.entry(i);
+        // An entry of a file has its offset, so that none is due.
+        let from = entries.offset(i, 0);
         let end = from + entry.size_of();
         Found { entry, from, end }
     }

@@ -11,37 +11,41 @@ ghost use Rattle.file.specs.Items.{contents, file_of, lent_items};
 ghost use Rattle.file.specs.Tries.{whole_tries, room_tries, write_reply, file_left};
 ghost use Rattle.file.specs.Steps.{Roomy};
 
-use crate::contents::Contents;
+use crate::contents::{Contents, Entries};
 use crate::layout::Widths;
 use crate::{contents, layout, limits};
 use reply::{Reason, Refusal};
 
-// Where lent entries stand, whose bodies are a run of `run` bytes.
-fn lent_in(entries: &[u8], run: usize) -> Contents
-    ensures { result ≡ lent entries.now run }
+// Lent entries, whose bodies are a run of `run` bytes.
+fn lent_in(entries: &[u8], run: usize) -> Entries<'_>
+    ensures { (result.contents ≡ lent entries.now run) × (result.bytes.now ≡ entries.now) }
 {
     let widths = Widths::as_lent();
-    Contents {
+    let contents = Contents {
         widths,
         count: entries.len() / limits::LENT_BYTES,
         from: 0,
         start: 0,
         limit: run,
+    };
+    Entries {
+        bytes: entries,
+        contents,
     }
 }
 
-// 20 and 21: whether lent entries are whole, and how many they are; and where they stand.
+// 20 and 21: whether lent entries are whole, and how many they are; and the entries.
 #[tactic(auto, using(reply::proofs::Answers::answers))]
-fn judge_whole(entries: &[u8], run: usize) -> Result<Contents, Reason>
+fn judge_whole(entries: &[u8], run: usize) -> Result<Entries<'_>, Reason>
     ensures reply { refusal (code_in result) 0 ≡ first_of (whole_tries entries.now) }
-    ensures contents { IfOk result (λ c. (c ≡ lent entries.now run) × (c.count ≤ most_records)) }
+    ensures entries { IfOk result (λ l. (l.contents ≡ lent entries.now run) × (l.bytes.now ≡ entries.now) × (l.contents.count ≤ most_records)) }
 {
     if entries.len() % limits::LENT_BYTES != 0 {
         return Err(Reason::FileTooShort);
     }
-    let c = lent_in(entries, run);
-    contents::judge_count(c.count)?;
-    Ok(c)
+    let lent = lent_in(entries, run);
+    contents::judge_count(lent.contents.count)?;
+    Ok(lent)
 }
 
 // 26 and 27: a file of `start` bytes before its bodies, with a run of them, in so much room.
@@ -64,25 +68,24 @@ fn judge_room(start: usize, run: usize, room: usize) -> Result<(), Reason>
 fn judge_write(entries: &[u8], bodies: &[u8], room: usize) -> Result<(), Refusal>
     ensures { reply_of result ≡ write_reply entries.now bodies.now room }
 {
-    let c = judge_whole(entries, bodies.len())?;
-    c.judge(entries)?;
-    judge_room(contents::bodies_at(c.count), bodies.len(), room)?;
+    let lent = judge_whole(entries, bodies.len())?;
+    lent.judge()?;
+    judge_room(contents::bodies_at(lent.contents.count), bodies.len(), room)?;
     Ok(())
 }
 
-// Writes the contents of a file of the lent entries c, the first body of which begins at `start`.
+// Writes the contents of a file of lent entries, the first body of which begins at `start`.
 #[tactic(auto, using(crate::proofs::Writing::putting))]
-fn put_contents(out: &mut [u8], entries: &[u8], c: Contents, start: usize)
-    requires { Roomy c entries.now start out.old }
-    ensures { out.new ≡ laid out.old count_bytes (contents in_file start (entries_in c entries.now)) }
+fn put_contents(out: &mut [u8], lent: &Entries, start: usize)
+    requires { Roomy lent.now.contents lent.now.bytes.now start out.old }
+    ensures { out.new ≡ laid out.old count_bytes (contents in_file start (entries_in lent.now.contents lent.now.bytes.now)) }
 {
     let w = Widths::in_file();
-    let mut p = limits::COUNT_BYTES;
     let mut at = start;
-    for i in 0..c.count {
-        let e = c.entry_in(entries, i);
-        layout::put_entry(out, p, w, e, at);
-        p += w.width();
+    for i in 0..lent.contents.count {
+        let e = lent.entry(i);
+        // Entry i of a file begins where the contents of i records end.
+        layout::put_entry(out, contents::bodies_at(i), w, e, at);
         at += e.size_of();
     }
 }
@@ -93,10 +96,11 @@ fn put_file(entries: &[u8], bodies: &[u8], out: &mut [u8])
     requires { (write_reply entries.now bodies.now (length out.old)).code ≡ 0 }
     ensures { out.new ≡ laid out.old 0 (file_of (lent_items entries.now bodies.now)) }
 {
-    let c = lent_in(entries, bodies.len());
-    let start = contents::bodies_at(c.count);
-    table::store(out, 0, limits::COUNT_BYTES, c.count as u64);
-    put_contents(out, entries, c, start);
+    let lent = lent_in(entries, bodies.len());
+    let n = lent.contents.count;
+    let start = contents::bodies_at(n);
+    table::store(out, 0, limits::COUNT_BYTES, n as u64);
+    put_contents(out, &lent, start);
     buffer::lay(out, start, bodies);
 }
 

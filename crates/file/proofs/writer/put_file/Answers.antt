@@ -4,10 +4,10 @@ use Rattle.file.proofs.Writing.{put_room, put_roomy}
 use Rattle.file.proofs.writer.put_file.Goals as goal
 
 pub store-requires : goal.store-requires
-store-requires c = omega (arith, put_room _ _ _ c.requires _ c.lent_in-c.ensures _ c.bodies_at-start.ensures)
+store-requires c = omega (arith, put_room _ _ _ c.requires _ _ c.lent_in-lent.ensures.0 c.lent_in-lent.ensures.1 _ c.bodies_at-start.ensures)
 
 pub put_contents-requires : goal.put_contents-requires
-put_contents-requires c = put_roomy _ _ _ c.requires _ c.lent_in-c.ensures _ c.bodies_at-start.ensures _ (omega arith)
+put_contents-requires c = put_roomy _ _ _ c.requires _ _ c.lent_in-lent.ensures.0 c.lent_in-lent.ensures.1 _ c.bodies_at-start.ensures c.lent_in-lent.result.listed _ (omega arith)
 
 pub lay-requires : goal.lay-requires
-lay-requires c = omega (arith, put_room _ _ _ c.requires _ c.lent_in-c.ensures _ c.bodies_at-start.ensures)
+lay-requires c = omega (arith, put_room _ _ _ c.requires _ _ c.lent_in-lent.ensures.0 c.lent_in-lent.ensures.1 _ c.bodies_at-start.ensures)

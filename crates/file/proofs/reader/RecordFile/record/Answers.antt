@@ -3,18 +3,18 @@ use Rattle.std.proofs.Common.{arith}
 use Rattle.file.proofs.Records.{found_listed, found, found_small}
 use Rattle.file.proofs.reader.RecordFile.record.Goals as goal
 
-pub entry_in-entry-requires : goal.entry_in-entry-requires
-entry_in-entry-requires c = found_listed _ _ c.contents_of-c.ensures c.args.self.now.accepted _ c.requires
+pub invariant_of-entries : goal.invariant_of-entries
+invariant_of-entries c = record { listed = found_listed _ _ c.contents_of.ensures c.args.self.now.accepted }
 
 pub overflow_add-end : goal.overflow_add-end
 overflow_add-end c =
     omega (
       arith,
-      found_small _ _ c.contents_of-c.ensures c.args.self.now.accepted _ c.requires _ _ _ _
-          c.entry_in-entry.ensures.0 c.offset_in-from.ensures c.size_of.ensures.0,
+      found_small _ _ c.contents_of.ensures c.args.self.now.accepted _ c.requires _ _ _ _
+          c.entry-entry.ensures.0 c.offset-from.ensures c.size_of.ensures.0,
     )
 
 pub returns : goal.returns
 returns c =
-    found _ _ c.contents_of-c.ensures c.args.self.now.accepted _ c.requires _ _ _ _
-    c.entry_in-entry.ensures.0 c.offset_in-from.ensures c.size_of.ensures.0
+    found _ _ c.contents_of.ensures c.args.self.now.accepted _ c.requires _ _ _ _
+    c.entry-entry.ensures.0 c.offset-from.ensures c.size_of.ensures.0
