@@ -24,7 +24,7 @@ pub(crate) struct Contents {
 }
 
 // Contents, and the bytes that they stand in.
-#[derive(Clone, Copy)]
+#[derive(Clone, Copy, Debug)]
 pub(crate) struct Entries<'a> {
     pub bytes: &'a [u8],
     pub contents: Contents,
@@ -58,7 +58,7 @@ pub(crate) fn judge_count(count: usize) -> Result<(), Reason>
 }
 
 impl Contents {
-    // Where entry i begins.
+    // Where entry i begins. That it is near is a clause: the index is no part of the contents.
     fn place_in(self, i: usize) -> usize
         requires { Near self i }
         ensures { result ≡ place_in self i }

@@ -14,7 +14,7 @@ use crate::{contents, layout, limits};
 use reply::{Reason, Refusal};
 
 // A file that the reader accepts.
-#[derive(Clone, Copy)]
+#[derive(Clone, Copy, Debug)]
 pub struct RecordFile<'a> {
     pub bytes: &'a [u8],
     pub ghost accepted: { (read_reply bytes.now).code ≡ 0 },

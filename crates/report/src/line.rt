@@ -10,7 +10,7 @@ use reply::Reply;
 use text::Text;
 
 // What a line says: a segment count, the cost in units, and the first index of each segment, unused places 0, as the answer to reading cuts has them.
-#[derive(Clone, Copy)]
+#[derive(Clone, Copy, Debug)]
 pub struct Line {
     pub d: usize,
     pub cost: u64,

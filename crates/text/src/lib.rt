@@ -6,7 +6,7 @@
 ghost use Rattle.std.specs.Prelude.{[], ◌∷◌, ◌+◌, ◌^◌, ◌≤◌, ◌<◌, length};
 ghost use Rattle.text.specs.Text.{Grown, digits, decimal};
 
-// A text that grows in a lent buffer, and where it ends.
+// A text that grows in a lent buffer, and where it ends. How far it may still grow is asked in clauses, since no value knows what is still to come.
 #[derive(Drop)]
 pub struct Text<'a> {
     pub room: &'a mut [u8],
