@@ -1,6 +1,6 @@
 -- The three kernels, their numbers, and the distance that each gives two samples.
 -- A sample is a whole number. Assumes nothing.
-use Rattle.std.specs.Prelude.{◌≡◌, Bool, true, false, cond, ◌↔◌, ℕ, ◌+◌, ◌*◌, ◌-◌, ◌/◌, ◌<◌, eqb, length, get_or, ℤ, pos, negsuc, nat_abs, ◌+ℤ◌, ◌-ℤ◌, ◌*ℤ◌, Option, Some, None}
+use Rattle.std.specs.Prelude.{◌≡◌, Bool, true, false, cond, ◌↔◌, ℕ, ◌+◌, ◌*◌, ◌-◌, ◌/◌, ◌<◌, eqb, length, get_or, ℤ, pos, negsuc, nat_abs, ◌+ℤ◌, ◌-ℤ◌, ◌*ℤ◌, Option, Some, None, Result, IfOk}
 use mathlib.Core.List.{List, Memᴰ}
 use Rattle.kernel.specs.declared.Kernel.{Kernel}
 use Rattle.kernel.specs.declared.Kernel.TheVariants.{Linear, Spelling, Energy}
@@ -43,6 +43,10 @@ number_of Energy = 3
 
 unfoldable pub named_of : ℕ → Option Kernel
 named_of n = cond (eqb n 1) (Some Linear) (cond (eqb n 2) (Some Spelling) (cond (eqb n 3) (Some Energy) None))
+
+-- the kernel that is answered, if one is, is that of the number
+abbrev pub Names : {E : Type 0} → Result Kernel E → ℕ → Type 0
+Names r n = IfOk r (λ k. named_of n ≡ Some k)
 
 -- the gap |x - y| of two samples, and of two natural numbers
 abbrev pub gap : ℤ → ℤ → ℕ
