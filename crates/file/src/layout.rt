@@ -15,7 +15,8 @@ pub(crate) struct Widths {
     pub offset: usize,
 }
 
-// An entry of the contents, its offset aside: the term number, what is asked of the record, and how many observations it has.
+// An entry of the contents, its offset aside: the term number, what is asked of the record, and how many observations it has. That its fields are so small
+// (`Fits`) is asked in clauses: `entry_at` makes an entry of every list, bytes or not.
 #[derive(Clone, Copy, Debug, PartialEq, Eq)]
 pub struct Entry {
     pub term: u64,

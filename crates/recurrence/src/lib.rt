@@ -127,7 +127,7 @@ fn price(a: &[u64], c: &mut [u64], t: usize)
     }
 }
 
-// Fills both tables for every count of segments to dmax.
+// Fills both tables for every count of segments to dmax: two slices, as C lends them.
 #[tactic(auto, using(table::proofs::Fill::fill_none, crate::proofs::Weight::cost_small, crate::proofs::Weight::tail_small))]
 pub fn fill_tables(k: Kernel, u: &[u64], dmax: usize, costs: &mut [u8], starts: &mut [u8])
     requires lent { Lent (length u.now) dmax costs.old starts.old }

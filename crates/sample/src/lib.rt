@@ -10,7 +10,7 @@ ghost use Rattle.sample.specs.Judge.{judged_of, judged_count, judged_share};
 ghost use Rattle.sample.specs.Level.{InRange, level};
 ghost use Rattle.reply.specs.Refusal.{number_of};
 ghost use Rattle.sample.specs.Code.{code_of, level_of};
-ghost use Rattle.sample.specs.Word.{count_of, sample_of};
+ghost use Rattle.sample.specs.Word.{sample_of};
 
 use reply::Reason;
 
@@ -96,13 +96,6 @@ pub fn judge(s: Sample) -> Result<i64, Fault>
     }
 }
 
-// The signed number of these bits, in two's complement.
-fn count_of(word: u64) -> i64
-    ensures { result ≡ count_of word }
-{
-    word.cast_signed()
-}
-
 // The share of these bits. `from_bits` is undefined at a NaN's, of which all say the same.
 fn share_of(word: u64) -> f64
     ensures { result ≡ of_bits binary64 word }
@@ -118,14 +111,13 @@ pub fn sample_of(kind: u64, word: u64) -> Sample
     ensures { result ≡ sample_of kind word }
 {
     if kind == 0 {
-        let n = count_of(word);
-        return Sample::Count(n);
+        return Sample::Count(word.cast_signed());
     }
     let v = share_of(word);
     Sample::Share(v)
 }
 
-// A whole number as the engine takes it: x + 1,000,000.
+// A whole number as the engine takes it: x + 1,000,000, the sum that `level` is.
 fn raised(x: i64) -> u64
     requires { InRange x }
     ensures { result ≡ level x }
