@@ -11,7 +11,6 @@ use Rattle.reply.specs.declared.Refusal.{Refusal}
 use Rattle.reply.specs.Refusal.{reply_of}
 use Rattle.reply.proofs.Exactly.{code_of}
 use Rattle.reply.proofs.Answers.{ok_done}
-use Rattle.engine.proofs.Accepted.{costs_space}
 use Rattle.text.proofs.Pieces.{grown_nothing, grown, retell}
 use Rattle.report.specs.declared.line.Line.{Line}
 use Rattle.report.specs.Lines.{head_text}
@@ -35,11 +34,6 @@ loop-k-init c =
       put = grown_nothing _;
       upper_bound = omega arith;
     }
-
-pub line_at-l-requires : goal.line_at-l-requires
-line_at-l-requires c =
-    let a = c.loop-k.invariant.accepted in
-    record { row = c.loop-k-test.true; few_rows = a.fit.segments.few_segments; few_columns = a.fit.count.few_days; space = omega (arith, costs_space a) }
 
 pub put_line-requires : goal.put_line-requires
 put_line-requires c =

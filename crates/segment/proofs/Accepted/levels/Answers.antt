@@ -9,7 +9,7 @@ use Rattle.sample.specs.Code.{level_of}
 use Rattle.record.specs.declared.Asked.{Asked}
 use Rattle.record.specs.Body.{samples, judged_at, level_number}
 use Rattle.segment.specs.Summary.{Stretch}
-use Rattle.segment.proofs.Sum.{none_added, one_added, added_small}
+use Rattle.segment.proofs.Sum.{one_added, added_small}
 use Rattle.segment.proofs.Accepted.levels.Goals as goal
 
 -- the level at i is added to the levels before it
@@ -21,9 +21,6 @@ module _ (asked : Asked) (body : List ℕ) (first len : ℕ) (stretch : Stretch 
 
   added_fits : total + u ≤ most_observations * largest_level
   added_fits = omega (arith, added, added_small asked body first len stretch (i + 1) (omega arith))
-
-pub loop-i-init : goal.loop-i-init
-loop-i-init c = none_added _ _ _ _ c.args.self.now.lies
 
 pub overflow_add-total : goal.overflow_add-total
 overflow_add-total c =
