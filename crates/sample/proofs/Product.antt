@@ -8,8 +8,8 @@ use native.Mathlib.Omega.{arith}
 use mathlib.Core.Bool.{Bool, true, false, not, cond, ◌&&◌, ◌||◌, beq, true≢false, false≢true}
 use lib.IntN.{ℤ, pos}
 use lib.Dec.{T, ltb, leb, eqb, ltb→lt, lt→ltb, nltb→le, le→leb, eqb→eq, lit<, lit≤}
-use lib.Ieee.{Float, nan, inf, fin, binary64, up, down, add, sub, mul, lt, eq, ne, fits, whole, in_signed, to_signed}
-use Rattle.std.specs.Float.{float_is_finite}
+use lib.Ieee.{Float, nan, inf, fin, binary64, up, down, mul, lt, eq, ne, fits, whole, in_signed, to_signed}
+use Rattle.std.specs.Float.{float_is_finite, trunc, round_with}
 use lib.Ieee.Fits.{down_pos, and_i, eq→eqb}
 use lib.Ieee.Casts.{to_signed_cut}
 use lib.Ieee.Exact.{HasValue}
@@ -20,7 +20,7 @@ use Rattle.sample.specs.Judge.{Judged}
 use Rattle.sample.specs.declared.Fault.TheVariants.{NotFinite, OutOfRange, NotWhole}
 use Rattle.sample.specs.Judge.{signed, judged_ratio, judged_share}
 use Rattle.sample.proofs.Scaled.{product_exact, product_over}
-use Rattle.sample.proofs.Whole.{same_test, nearest, whole_test}
+use Rattle.sample.proofs.Whole.{same_test, whole_test}
 
 -- ---- a judgement sees only the value of its fraction
 
@@ -142,25 +142,24 @@ ratio_small : (s : Bool) (a c : ℕ) (b : Bool) → ltb (1000000 * c) a ≡ fals
 unfolding judged_ratio
 ratio_small s a c b p q = rw (p, q)
 
--- x is in range, and not a zero
+-- x is in range
 module _ (s : Bool) (m : ℕ) (e : ℤ) (l : lt (fin s m e) lowest ≡ false) (h : lt highest (fin s m e) ≡ false) where
   within : m * up e ≤ 1000000 * down e
   within = ltb-false (1000000 * down e) (m * up e) (in_range s m e l h)
 
-  module _ (z : eq (fin s m e) zero_float ≡ false) where
-    rest_is : (b : Bool) → ne (nearest (fin s m e)) (fin s m e) ≡ not b → eqb (m * up e % down e) 0 ≡ b
-    unfolding ne
-    rest_is b t = sym (whole_test s m e within (λ (n : m * up e ≡ 0). eqb-false (m * up e) 0 (sym (own_zero s m e) ∙ z) n)) ∙ not_same _ b t
-      where
-        not_same : (p q : Bool) → not p ≡ not q → p ≡ q
-        not_same true true n = refl
-        not_same true false n = absurd (false≢true n)
-        not_same false true n = absurd (true≢false n)
-        not_same false false n = refl
+  rest_is : (b : Bool) → ne (trunc binary64 (fin s m e)) (fin s m e) ≡ not b → eqb (m * up e % down e) 0 ≡ b
+  unfolding ne
+  rest_is b t = sym (whole_test s m e within) ∙ not_same _ b t
+    where
+      not_same : (p q : Bool) → not p ≡ not q → p ≡ q
+      not_same true true n = refl
+      not_same true false n = absurd (false≢true n)
+      not_same false true n = absurd (true≢false n)
+      not_same false false n = refl
 
-    judged_rest : (b : Bool) → ne (nearest (fin s m e)) (fin s m e) ≡ not b → judged_product (fin s m e) ≡ cond b (Ok (signed s (m * up e / down e))) (Err NotWhole)
-    unfolding judged_product
-    judged_rest b t = ratio_small s (m * up e) (down e) b (in_range s m e l h) (rest_is b t)
+  judged_rest : (b : Bool) → ne (trunc binary64 (fin s m e)) (fin s m e) ≡ not b → judged_product (fin s m e) ≡ cond b (Ok (signed s (m * up e / down e))) (Err NotWhole)
+  unfolding judged_product
+  judged_rest b t = ratio_small s (m * up e) (down e) b (in_range s m e l h) (rest_is b t)
 
 signed_zero : (s : Bool) → signed s 0 ≡ pos 0
 signed_zero true = refl
@@ -174,12 +173,12 @@ is_zero_whole (fin s m e) z =
     rw (eqb-true (m * up e) 0 (sym (own_zero s m e) ∙ z))
     (ratio_small s 0 (down e) true (le-ltb (1000000 * down e) 0 (omega arith)) (eq-eqb _ _ (zero-mod (down e))) ∙ ap (λ (x : ℕ). Ok (signed s x)) (zero-div (down e)) ∙ ap Ok (signed_zero s))
 
-pub not_whole : (x : Float) → lt x lowest ≡ false → lt highest x ≡ false → eq x zero_float ≡ false → ne (nearest x) x ≡ true → judged_product x ≡ Err NotWhole
+pub not_whole : (x : Float) → lt x lowest ≡ false → lt highest x ≡ false → ne (trunc binary64 x) x ≡ true → judged_product x ≡ Err NotWhole
 unfolding lt judged_product
-not_whole nan l h z t = refl
-not_whole (inf true) l h z t = absurd (true≢false l)
-not_whole (inf false) l h z t = absurd (true≢false h)
-not_whole (fin s m e) l h z t = judged_rest s m e l h z false t
+not_whole nan l h t = refl
+not_whole (inf true) l h t = absurd (true≢false l)
+not_whole (inf false) l h t = absurd (true≢false h)
+not_whole (fin s m e) l h t = judged_rest s m e l h false t
 
 no_zero : (s : Bool) (m u : ℕ) → eqb (m * u) 0 ≡ false → T (not (s && eqb m 0))
 no_zero false m u z = tt
@@ -189,8 +188,8 @@ castable : (s : Bool) (q : ℕ) → q ≤ 1000000 → T (cond s (leb q (2 ^ 63))
 castable true q h = le→leb q (2 ^ 63) (le_trans h (lit≤ tt))
 castable false q h = lt→ltb q (2 ^ 63) (lt_of_le_of_lt h (lit< tt))
 
-pub is_whole_cast : (x : Float) → lt x lowest ≡ false → lt highest x ≡ false → eq x zero_float ≡ false → ne (nearest x) x ≡ false → T (in_signed binary64 63 x) × (judged_product x ≡ Ok (to_signed 63 x))
-unfolding lt ne eq sub add in_signed whole
+pub is_whole_cast : (x : Float) → lt x lowest ≡ false → lt highest x ≡ false → eq x zero_float ≡ false → ne (trunc binary64 x) x ≡ false → T (in_signed binary64 63 x) × (judged_product x ≡ Ok (to_signed 63 x))
+unfolding lt ne eq in_signed whole round_with
 is_whole_cast nan l h z t = absurd (true≢false t)
 is_whole_cast (inf true) l h z t = absurd (true≢false l)
 is_whole_cast (inf false) l h z t = absurd (true≢false h)
@@ -201,7 +200,7 @@ is_whole_cast (fin s m e) l h z t =
     let i : T (in_signed binary64 63 (fin s m e)) =
     and_i (eqb r 0 && leb q (2 ^ 53) && not (s && eqb m 0)) (cond s (leb q (2 ^ 63)) (ltb q (2 ^ 63)))
     (and_i (eqb r 0 && leb q (2 ^ 53)) (not (s && eqb m 0))
-    (and_i (eqb r 0) (leb q (2 ^ 53)) (subst T (sym (rest_is s m e l h z true t)) tt) (le→leb q (2 ^ 53) (le_trans small (lit≤ tt))))
+    (and_i (eqb r 0) (leb q (2 ^ 53)) (subst T (sym (rest_is s m e l h true t)) tt) (le→leb q (2 ^ 53) (le_trans small (lit≤ tt))))
     (no_zero s m (up e) (sym (own_zero s m e) ∙ z)))
     (castable s q small) in
-    (i, judged_rest s m e l h z true t ∙ ap Ok (sym (to_signed_cut binary64 63 s m e i)))
+    (i, judged_rest s m e l h true t ∙ ap Ok (sym (to_signed_cut binary64 63 s m e i)))

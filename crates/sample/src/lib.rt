@@ -78,9 +78,7 @@ fn judge_share(v: f64) -> Result<i64, Fault>
     if x == 0.0 {
         return Ok(0);
     }
-    // Values from 2^52 to 2^53 are whole, so x comes back from there only where it is whole.
-    let nearest = (x + 6755399441055744.0) - 6755399441055744.0;
-    if nearest != x {
+    if x.trunc() != x {
         return Err(Fault::NotWhole);
     }
     Ok(x as i64)
