@@ -5,9 +5,13 @@ unread() { # NAME
     ends_with 3 "$root/cuts" "$1" >"$made/output" 2>"$made/words" && [ ! -s "$made/output" ] && grep -q '^cuts: ' "$made/words"
 }
 
+# The links stand outside the checkout: rt ci takes none within it.
 through_a_link() {
-    ln -sf "$root/cuts" "$made/link" && ln -sf link "$made/link_to_link"
-    (cd / && prints "$year" "$made/link_to_link") && (PATH=$made:$PATH && cd "$made" && prints "$year" link_to_link)
+    links=$(mktemp -d) && ln -s "$root/cuts" "$links/link" && ln -s link "$links/link_to_link" || return
+    (cd / && prints "$year" "$links/link_to_link") && (PATH=$links:$PATH && cd "$links" && prints "$year" link_to_link)
+    ended=$?
+    rm -rf "$links"
+    return "$ended"
 }
 
 reader_gone() { # WORDS SAID
