@@ -36,7 +36,7 @@ impl Text<'_> {
     }
 
     // The decimal digits of n, at most f of them: it goes down as `digits` of the definitions does. `itoa` writes the same digits, but two edits hold these
-    // lines, `digit_one_off` and `ten_as_one_digit`: written around a call of it they are refused as their harmless twins are, for want of an invariant.
+    // lines, `digit_one_off` and `ten_as_one_digit`: written around a call of it they are refused as their harmless twins are, for want of a proof.
     #[tactic(auto, using(crate::proofs::Pieces::one_digit))]
     fn digits(&mut self, n: u64, f: usize)
         requires { (1 ≤ f) × (f ≤ 20) × (n < 10 ^ f) × (self.old.end + f < 2 ^ 32) }
