@@ -1,11 +1,12 @@
 /*
- * bench.c: times the real solve beside C of the same algorithm in whole numbers and
- * beside the old way in double precision, on the same records, and prints how the time
- * grows and how much stack a solve takes. All ways must agree before they are timed.
+ * bench.c: times the real solve beside C of the same algorithm in whole numbers, with one
+ * channel and with four, and with one channel beside the old way in double precision, on
+ * the same records, and prints how the time grows and how much stack each call takes. All
+ * ways must agree before they are timed.
  */
 #include "doubles.h"
-#include "stack.h"
-#include "tawinrak.h"
+#include "records.h"
+#include "stacks.h"
 #include "timing.h"
 #include "whole.h"
 
@@ -14,55 +15,47 @@
 #include <stdlib.h>
 #include <string.h>
 
-enum { N = TAWINRAK_MOST_OBSERVATIONS, D = TAWINRAK_MOST_SEGMENTS, ENTRIES = D * (N + 1) };
-
-static const char *const kernel_names[] = {"", "linear", "spelling", "energy"};
+enum { ENTRIES = D * (N + 1) };
 
 /* The record to solve, and the tables of each way. */
-static struct {
-    uint8_t body[TAWINRAK_OBSERVATION_BYTES * N];
-    size_t n;
-    uint64_t kernel, dmax;
-} task;
+static Record task;
 static uint8_t costs[8 * ENTRIES], starts[2 * ENTRIES];
 static uint8_t whole_costs[8 * ENTRIES], whole_starts[2 * ENTRIES];
 static double double_costs[ENTRIES];
 static uint16_t double_starts[ENTRIES];
 
-static size_t body_len(void)
-{
-    return TAWINRAK_OBSERVATION_BYTES * task.n;
-}
+/* What the real solve answers last. */
+static uint64_t reply;
 
 static void solve_really(void)
 {
-    tawinrak_solve(task.body, body_len(), TAWINRAK_COUNT, task.kernel, task.dmax, costs, sizeof costs, starts,
-                   sizeof starts);
+    reply = tawinrak_solve(task.body, body_bytes(&task), task.channels, channel_bytes(&task), task.dmax, costs,
+                           sizeof costs, starts, sizeof starts);
 }
 
 static void solve_in_c(void)
 {
-    whole_solve(task.body, body_len(), TAWINRAK_COUNT, task.kernel, task.dmax, whole_costs, sizeof whole_costs,
-                whole_starts, sizeof whole_starts);
+    whole_solve(task.body, body_bytes(&task), task.channels, channel_bytes(&task), task.dmax, whole_costs,
+                sizeof whole_costs, whole_starts, sizeof whole_starts);
 }
 
 static void solve_in_doubles(void)
 {
-    doubles_solve(task.body, body_len(), task.kernel, task.dmax, double_costs, double_starts);
+    doubles_solve(task.body, body_bytes(&task), task.channels[0], task.dmax, double_costs, double_starts);
 }
 
 #ifdef OTHER_COMPILER
-uint64_t whole_solve_other(const uint8_t *body, size_t body_len, uint64_t kind, uint64_t kernel, uint64_t dmax,
-                           uint8_t *costs, size_t costs_len, uint8_t *starts, size_t starts_len);
+uint64_t whole_solve_other(const uint8_t *body, size_t body_len, const uint8_t *channels, size_t channels_len,
+                           uint64_t dmax, uint8_t *costs, size_t costs_len, uint8_t *starts, size_t starts_len);
 
 static void solve_in_c_otherwise(void)
 {
-    whole_solve_other(task.body, body_len(), TAWINRAK_COUNT, task.kernel, task.dmax, whole_costs, sizeof whole_costs,
-                      whole_starts, sizeof whole_starts);
+    whole_solve_other(task.body, body_bytes(&task), task.channels, channel_bytes(&task), task.dmax, whole_costs,
+                      sizeof whole_costs, whole_starts, sizeof whole_starts);
 }
 #endif
 
-/* The ways, the real one first. */
+/* The ways, the real one first and the doubles last. */
 static void (*const ways[])(void) = {
     solve_really, solve_in_c,
 #ifdef OTHER_COMPILER
@@ -77,32 +70,15 @@ static const char *const way_names[] = {
     "C, doubles (" COMPILER ")"};
 enum { WAYS = sizeof ways / sizeof ways[0] };
 
-static uint32_t drawn(void)
+/* The doubles take one channel. */
+static unsigned ways_of(const Record *record)
 {
-    static uint64_t state = 1;
-    state = state * 6364136223846793005u + 1442695040888963407u;
-    return (uint32_t)(state >> 33);
-}
-
-/* A record of plateaus with noise; for the spelling kernel, of few codes. */
-static void draw_record(size_t n, uint64_t kernel, uint64_t dmax)
-{
-    int64_t level = 0;
-    task.n = n;
-    task.kernel = kernel;
-    task.dmax = dmax;
-    for (uint32_t i = 0; i < n; i++) {
-        if (drawn() % 40 == 0)
-            level = (int64_t)(drawn() % 1800001) - 900000;
-        int64_t x = kernel == TAWINRAK_SPELLING ? level / 300000 + drawn() % 2 : level + drawn() % 50000;
-        memcpy(task.body + TAWINRAK_OBSERVATION_BYTES * i, &i, 4);
-        memcpy(task.body + TAWINRAK_OBSERVATION_BYTES * i + 4, &x, 8);
-    }
+    return record->channel_count == 1 ? WAYS : WAYS - 1;
 }
 
 static void fail(const char *what)
 {
-    fprintf(stderr, "%s, kernel %u, n %zu, Dmax %u\n", what, (unsigned)task.kernel, task.n, (unsigned)task.dmax);
+    fprintf(stderr, "%s, %s, n %zu, Dmax %u\n", what, task.name, task.n, (unsigned)task.dmax);
     exit(1);
 }
 
@@ -119,19 +95,28 @@ static void check_doubles(void)
     }
 }
 
+static void check_whole(void (*way)(void))
+{
+    memset(whole_costs, 1, sizeof whole_costs);
+    memset(whole_starts, 1, sizeof whole_starts);
+    way();
+    if (memcmp(costs, whole_costs, sizeof costs) != 0 || memcmp(starts, whole_starts, sizeof starts) != 0)
+        fail("the tables differ");
+}
+
 static void check_ways(void)
 {
     memset(costs, 1, sizeof costs);
     memset(starts, 1, sizeof starts);
     solve_really();
-    for (unsigned way = 1; way < WAYS; way++) {
-        memset(whole_costs, 1, sizeof whole_costs);
-        memset(whole_starts, 1, sizeof whole_starts);
-        ways[way]();
-        if (way + 1 < WAYS && (memcmp(costs, whole_costs, sizeof costs) || memcmp(starts, whole_starts, sizeof starts)))
-            fail("the tables differ");
+    if (reply != TAWINRAK_DONE)
+        fail("the record is refused");
+    for (unsigned way = 1; way < WAYS - 1; way++)
+        check_whole(ways[way]);
+    if (ways_of(&task) == WAYS) {
+        solve_in_doubles();
+        check_doubles();
     }
-    check_doubles();
 }
 
 /* As many repeats as make a round about equally long for every record. */
@@ -145,18 +130,26 @@ static void print_spread(Spread spread)
     printf("  %7.1f (%6.1f -%7.1f)", spread.median, spread.low, spread.high);
 }
 
-static void time_ways(size_t n, uint64_t kernel)
+static void time_ways(void)
 {
     Spread spreads[WAYS];
-    draw_record(n, kernel, D);
+    unsigned count = ways_of(&task);
     check_ways();
-    time_in_turn(ways, WAYS, repeats_for(n, D), spreads);
-    printf("%-8s %4zu", kernel_names[kernel], n);
-    for (unsigned way = 0; way < WAYS; way++)
+    time_in_turn(ways, count, repeats_for(task.n, task.dmax), spreads);
+    printf("%-8s %4zu", task.name, task.n);
+    for (unsigned way = 0; way < count; way++)
         print_spread(spreads[way]);
-    for (unsigned way = 1; way < WAYS; way++)
+    for (unsigned way = 1; way < count; way++)
         printf("  %5.2f", spreads[0].median / spreads[way].median);
     printf("  %7.0f\n", 1e6 / spreads[0].median);
+}
+
+static void print_names(const char *first, unsigned count)
+{
+    printf("%-8s %4s", first, "n");
+    for (unsigned way = 0; way < count; way++)
+        printf("  %-25s", way_names[way]);
+    printf("  %-*s solves\n", 7 * ((int)count - 1), "over");
 }
 
 static void print_ways(void)
@@ -164,19 +157,24 @@ static void print_ways(void)
     printf("\nSolve at Dmax = %d. Microseconds of processor time a solve: median (quartiles) of %d rounds.\n", D,
            TIMING_ROUNDS);
     printf("Then the first median over each of the others, and solves a second by the first.\n");
-    printf("%-8s %4s", "kernel", "n");
-    for (unsigned way = 0; way < WAYS; way++)
-        printf("  %-25s", way_names[way]);
-    printf("  %-*s solves\n", 7 * (WAYS - 1), "over");
+    print_names("kernel", WAYS);
     for (uint64_t kernel = TAWINRAK_LINEAR; kernel <= TAWINRAK_ENERGY; kernel++)
-        for (size_t n = 100; n <= N; n *= 2)
-            time_ways(n, kernel);
+        for (size_t n = 100; n <= N; n *= 2) {
+            draw_record(&task, n, kernel, D);
+            time_ways();
+        }
+    printf("\nFour channels: linear counts, shares by energy, spellings, linear counts.\n");
+    print_names("channels", WAYS - 1);
+    for (size_t n = 100; n <= N; n *= 2) {
+        draw_four(&task, n, D);
+        time_ways();
+    }
 }
 
 static double time_growth(size_t n, uint64_t dmax, double before)
 {
     Spread spread;
-    draw_record(n, TAWINRAK_LINEAR, dmax);
+    draw_record(&task, n, TAWINRAK_LINEAR, dmax);
     check_ways();
     time_in_turn(ways, 1, repeats_for(n, dmax), &spread);
     printf("n %3zu Dmax %2u ", n, (unsigned)dmax);
@@ -191,7 +189,7 @@ static void print_growth(void)
 {
     static const uint64_t dmaxes[] = {1, 2, 4, 8, 12};
     double before = 0;
-    printf("\nHow the real solve grows with n, linear kernel, microseconds:\n");
+    printf("\nHow the real solve grows with n, one linear channel, microseconds:\n");
     for (size_t n = 25; n <= N; n *= 2)
         before = time_growth(n, D, before);
     printf("\nHow it grows with Dmax:\n");
@@ -200,20 +198,10 @@ static void print_growth(void)
         before = time_growth(N, dmaxes[i], before);
 }
 
-static void print_stack(void)
-{
-    printf("\nStack of a solve of %d observations, bytes:\n", N);
-    for (uint64_t kernel = TAWINRAK_LINEAR; kernel <= TAWINRAK_ENERGY; kernel++) {
-        draw_record(N, kernel, D);
-        unsigned really = run_on_small_stack(solve_really), in_c = run_on_small_stack(solve_in_c);
-        printf("%-8s  tawinrak %u, C in whole numbers %u\n", kernel_names[kernel], really, in_c);
-    }
-}
-
 int main(void)
 {
     print_ways();
     print_growth();
-    print_stack();
+    print_stacks();
     return 0;
 }

@@ -6,7 +6,7 @@
 #include <stdint.h>
 
 /* As tawinrak_solve: the same arguments, the same reply, the same bytes written. */
-uint64_t whole_solve(const uint8_t *body, size_t body_len, uint64_t kind, uint64_t kernel, uint64_t dmax,
+uint64_t whole_solve(const uint8_t *body, size_t body_len, const uint8_t *channels, size_t channels_len, uint64_t dmax,
                      uint8_t *costs, size_t costs_len, uint8_t *starts, size_t starts_len);
 
 #endif

@@ -21,10 +21,10 @@
 /* What the program ends with. */
 enum { ALL_DONE = 0, TERM_REFUSED = 1, FILE_REFUSED = 2, NOT_ANSWERED = 3 };
 
-/* One record of a file: the fields of its entry, and its body. */
+/* One record of a file: the fields of its entry, where its channels stand, and its body. */
 typedef struct {
-    unsigned term, kernel, kind, dmax, n;
-    const uint8_t *body;
+    unsigned term, channel_count, dmax, n;
+    const uint8_t *channels, *body;
 } Record;
 
 /* One byte more than a file may have, so that a longer one is told. */
@@ -40,22 +40,24 @@ static uint64_t number_at(const uint8_t *bytes, unsigned width)
     return number;
 }
 
+/* Behind the term stand, in form 1 alone, the count of channels, then the channels; Dmax, n and offset come last. */
 static Record record_at(unsigned index)
 {
-    const uint8_t *entry = file + TAWINRAK_FILE_COUNT_BYTES + TAWINRAK_FILE_ENTRY_BYTES * index;
+    unsigned form = file[1], width = TAWINRAK_FILE_ENTRY_BYTES(form);
+    const uint8_t *entry = file + TAWINRAK_FILE_HEAD_BYTES + width * index, *end = entry + width;
     Record record;
     record.term = (unsigned)number_at(entry, 2);
-    record.kernel = entry[2];
-    record.kind = entry[3];
-    record.dmax = (unsigned)number_at(entry + 4, 2);
-    record.n = (unsigned)number_at(entry + 6, 2);
-    record.body = file + number_at(entry + 8, 4);
+    record.channel_count = form == TAWINRAK_FORM_SINGLE ? 1 : entry[2];
+    record.channels = entry + (form == TAWINRAK_FORM_SINGLE ? 2 : 3);
+    record.dmax = (unsigned)number_at(end - 8, 2);
+    record.n = (unsigned)number_at(end - 6, 2);
+    record.body = file + number_at(end - 4, 4);
     return record;
 }
 
 static uint64_t day_at(const Record *record, unsigned index)
 {
-    return number_at(record->body + TAWINRAK_OBSERVATION_BYTES * index, 4);
+    return number_at(record->body + TAWINRAK_OBSERVATION_BYTES(record->channel_count) * index, 4);
 }
 
 /* Halfway between the last day before the segment and its first day, rounded down: of neighbouring days the earlier. */
@@ -81,7 +83,7 @@ static void print_cutting(const Record *record, unsigned count)
 {
     uint8_t cuts[TAWINRAK_STARTS_OUT_BYTES];
     unsigned last = (count - 1) * (record->n + 1) + record->n;
-    tawinrak_read_cuts(starts, sizeof starts, record->n, count, record->kernel, cuts, sizeof cuts);
+    tawinrak_read_cuts(starts, sizeof starts, record->n, count, record->channels[0], cuts, sizeof cuts);
     printf("%u %" PRIu64, count, number_at(costs + 8 * last, 8));
     for (unsigned segment = 1; segment < count; segment++) {
         unsigned start = (unsigned)number_at(cuts + 2 * segment, 2);
@@ -90,11 +92,17 @@ static void print_cutting(const Record *record, unsigned count)
     printf("\n");
 }
 
+static uint64_t solve(const Record *record)
+{
+    return tawinrak_solve(record->body, TAWINRAK_OBSERVATION_BYTES(record->channel_count) * record->n, record->channels,
+                          TAWINRAK_CHANNEL_BYTES * record->channel_count, record->dmax, costs, sizeof costs, starts,
+                          sizeof starts);
+}
+
 static int print_record(const Record *record)
 {
     char who[16];
-    uint64_t reply = tawinrak_solve(record->body, TAWINRAK_OBSERVATION_BYTES * record->n, record->kind, record->kernel,
-                                    record->dmax, costs, sizeof costs, starts, sizeof starts);
+    uint64_t reply = solve(record);
     printf("term %u code %u place %u\n", record->term, TAWINRAK_CODE(reply), TAWINRAK_PLACE(reply));
     if (TAWINRAK_CODE(reply) != TAWINRAK_DONE) {
         snprintf(who, sizeof who, "term %u", record->term);
@@ -115,8 +123,7 @@ static int print_file(size_t length)
         tell("file", reply);
         return FILE_REFUSED;
     }
-    unsigned records = (unsigned)number_at(file, 2);
-    for (unsigned index = 0; index < records; index++) {
+    for (unsigned index = 0; index < file[0]; index++) {
         Record record = record_at(index);
         if (print_record(&record) != ALL_DONE)
             status = TERM_REFUSED;

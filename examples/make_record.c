@@ -33,24 +33,30 @@ static bool fault(const char *words, const char *field)
     return false;
 }
 
-/* Notes what a reply of the library says, if it is a refusal. */
-static void note_reply(unsigned of_line, uint64_t reply)
+/* Notes what a reply of the library says, if it is a refusal, behind words that say of what it is. */
+static void note_reply(unsigned of_line, const char *of, uint64_t reply)
 {
     char words[160];
     unsigned code = TAWINRAK_CODE(reply);
     if (code == TAWINRAK_DONE)
         return;
-    snprintf(words, sizeof words, "%s (code %u)", tawinrak_text(code), code);
+    snprintf(words, sizeof words, "%s%s (code %u)", of, tawinrak_text(code), code);
     note_fault(of_line, words, NULL);
 }
 
 /* ---- the file that is made */
 
+/* The widest observation. */
+enum { WIDEST = TAWINRAK_OBSERVATION_BYTES(TAWINRAK_MOST_CHANNELS) };
+
 /* One entry and one observation more than a file may have, so that the writer tells it. */
 static uint8_t entries[TAWINRAK_ENTRY_BYTES * (TAWINRAK_MOST_RECORDS + 1)];
-static uint8_t bodies[TAWINRAK_MOST_FILE_BYTES];
+static uint8_t bodies[TAWINRAK_MOST_FILE_BYTES + WIDEST];
 static uint8_t file[TAWINRAK_MOST_FILE_BYTES];
 static size_t entry_count, bodies_len;
+
+/* The form that the terms up to here need. */
+static unsigned form = TAWINRAK_FORM_SINGLE;
 
 /* The line of the last entry or observation kept. */
 static unsigned kept_line;
@@ -63,7 +69,7 @@ static void put_number(uint8_t *bytes, unsigned width, uint64_t number)
 
 static size_t file_length(void)
 {
-    return TAWINRAK_FILE_COUNT_BYTES + TAWINRAK_FILE_ENTRY_BYTES * entry_count + bodies_len;
+    return TAWINRAK_FILE_HEAD_BYTES + TAWINRAK_FILE_ENTRY_BYTES(form) * entry_count + bodies_len;
 }
 
 /* Whether there is more to keep: what passes a file's end is kept, what comes after it is not. */
@@ -80,48 +86,82 @@ static bool more_to_keep(void)
 typedef enum { COUNTS, SHARES, ROUNDED_SHARES, WORDS } Samples;
 
 typedef struct {
+    unsigned kernel;
+    Samples samples;
+} Channel;
+
+/* One channel more than there may be, so that the library tells it. */
+enum { MOST_TOLD_CHANNELS = TAWINRAK_MOST_CHANNELS + 1 };
+
+typedef struct {
     bool begun; /* there is one */
     bool sound; /* and its term line is understood */
-    unsigned line, number, kernel, dmax;
-    Samples samples;
-    unsigned n;   /* how many observations stand below it up to here */
-    bool has_day; /* whether one of them has a day, .. */
-    uint32_t day; /* .. and the last such day */
+    unsigned line, number, dmax;
+    Channel channels[MOST_TOLD_CHANNELS];
+    unsigned channel_count;
+    bool samples_first; /* samples are said before any kernel */
+    unsigned n;         /* how many observations stand below it up to here */
+    bool has_day;       /* whether one of them has a day, .. */
+    uint32_t day;       /* .. and the last such day */
 } Term;
 
 static Term term;
 
-/* The spellings of the term at hand, each with its index and 1 for its code. */
-static char spellings[TAWINRAK_MOST_OBSERVATIONS][LINE_BYTES + 1];
-static unsigned spelling_count;
+/* The spellings of each channel of the term at hand, each with its index and 1 for its code. */
+static struct {
+    char words[TAWINRAK_MOST_OBSERVATIONS][LINE_BYTES + 1];
+    unsigned count;
+} spellings[TAWINRAK_MOST_CHANNELS];
 
-static uint8_t kind_of(Samples samples)
+/* The samples of an observation without any. */
+static const uint64_t zeros[TAWINRAK_MOST_CHANNELS];
+
+static uint8_t kind_of(const Channel *channel)
 {
-    return samples == SHARES || samples == ROUNDED_SHARES ? TAWINRAK_SHARE : TAWINRAK_COUNT;
+    return channel->samples == SHARES || channel->samples == ROUNDED_SHARES ? TAWINRAK_SHARE : TAWINRAK_COUNT;
 }
 
-/* What solve says of a body that is asked about as the term at hand is. */
-static uint64_t solved(const uint8_t *body, size_t n, unsigned kernel, unsigned dmax)
+static void put_channels(uint8_t *bytes)
+{
+    for (unsigned i = 0; i < term.channel_count; i++) {
+        put_number(bytes + TAWINRAK_CHANNEL_BYTES * i, 1, term.channels[i].kernel);
+        put_number(bytes + TAWINRAK_CHANNEL_BYTES * i + 1, 1, kind_of(&term.channels[i]));
+    }
+}
+
+/* Puts an observation of so many channels, and answers where it ends. */
+static uint8_t *put_observation(uint8_t *bytes, uint32_t day, const uint64_t *samples, unsigned channel_count)
+{
+    put_number(bytes, 4, day);
+    for (unsigned i = 0; i < channel_count; i++)
+        put_number(bytes + TAWINRAK_OBSERVATION_BYTES(i), 8, samples[i]);
+    return bytes + TAWINRAK_OBSERVATION_BYTES(channel_count);
+}
+
+/* What solve says of a body of so many channels, cut into up to dmax segments. */
+static uint64_t solved(const uint8_t *body, size_t body_len, const uint8_t *channels, unsigned channel_count,
+                       unsigned dmax)
 {
     static uint8_t costs[TAWINRAK_COST_BYTES(TAWINRAK_MOST_OBSERVATIONS, TAWINRAK_MOST_SEGMENTS)];
     static uint8_t starts[TAWINRAK_START_BYTES(TAWINRAK_MOST_OBSERVATIONS, TAWINRAK_MOST_SEGMENTS)];
-    return tawinrak_solve(body, n * TAWINRAK_OBSERVATION_BYTES, kind_of(term.samples), kernel, dmax, costs,
-                          sizeof costs, starts, sizeof starts);
+    return tawinrak_solve(body, body_len, channels, TAWINRAK_CHANNEL_BYTES * channel_count, dmax, costs, sizeof costs,
+                          starts, sizeof starts);
 }
 
-/* Judges how many observations the term has, its kernel and its Dmax, on a body with no other fault. */
+/* Judges how many observations the term has, its kernels and its Dmax, on a body with no other fault. */
 static void end_term(void)
 {
-    static uint8_t body[TAWINRAK_OBSERVATION_BYTES * (TAWINRAK_MOST_OBSERVATIONS + 1)];
-    unsigned n = term.n <= TAWINRAK_MOST_OBSERVATIONS ? term.n : TAWINRAK_MOST_OBSERVATIONS + 1;
+    static uint8_t body[WIDEST * (TAWINRAK_MOST_OBSERVATIONS + 1)];
+    uint8_t channels[TAWINRAK_CHANNEL_BYTES * MOST_TOLD_CHANNELS], *end = body;
     if (!term.sound)
         return;
-    for (unsigned i = 0; i < n; i++)
-        put_number(body + TAWINRAK_OBSERVATION_BYTES * i, 4, i);
-    note_reply(term.line, solved(body, n, term.kernel, term.dmax));
+    for (unsigned i = 0; i < term.n && i <= TAWINRAK_MOST_OBSERVATIONS; i++)
+        end = put_observation(end, i, zeros, term.channel_count);
+    put_channels(channels);
+    note_reply(term.line, "", solved(body, (size_t)(end - body), channels, term.channel_count, term.dmax));
 }
 
-/* ---- term lines: pairs of a key and its value, in any order after the first */
+/* ---- term lines: pairs of a key and its value, in any order after the first but for the samples of several kernels */
 
 static const char *set_term(const char *value)
 {
@@ -132,32 +172,35 @@ static const char *set_term(const char *value)
     return NULL;
 }
 
+/* Opens a channel, the last one anew where there is no place for a further one. */
 static const char *set_kernel(const char *value)
 {
     static const char *const names[] = {"linear", "spelling", "energy"};
-    uint64_t number;
-    for (unsigned i = 0; i < 3; i++) {
-        if (strcmp(value, names[i]) == 0) {
-            term.kernel = TAWINRAK_LINEAR + i;
-            return NULL;
-        }
-    }
-    if (!read_number(value, UINT8_MAX, &number))
+    uint64_t number = 0;
+    while (number < 3 && strcmp(value, names[number]) != 0)
+        number++;
+    if (number < 3)
+        number += TAWINRAK_LINEAR;
+    else if (!read_number(value, UINT8_MAX, &number))
         return "is not linear, spelling or energy";
-    term.kernel = (unsigned)number;
+    if (term.channel_count < MOST_TOLD_CHANNELS)
+        term.channel_count++;
+    term.channels[term.channel_count - 1].kernel = (unsigned)number;
     return NULL;
 }
 
+/* Says the samples of the last kernel; before any kernel, those of the first. */
 static const char *set_samples(const char *value)
 {
     static const char *const names[] = {"counts", "shares", "rounded-shares", "words"};
-    for (unsigned i = 0; i < 4; i++) {
-        if (strcmp(value, names[i]) == 0) {
-            term.samples = (Samples)i;
-            return NULL;
-        }
-    }
-    return "is not counts, shares, rounded-shares or words";
+    unsigned named = 0;
+    while (named < 4 && strcmp(value, names[named]) != 0)
+        named++;
+    if (named == 4)
+        return "is not counts, shares, rounded-shares or words";
+    term.samples_first = term.samples_first || term.channel_count == 0;
+    term.channels[term.channel_count > 0 ? term.channel_count - 1 : 0].samples = (Samples)named;
+    return NULL;
 }
 
 static const char *set_dmax(const char *value)
@@ -180,9 +223,9 @@ static const struct {
     {"samples", set_samples, NULL},
     {"dmax", set_dmax, "the term line has no dmax"},
 };
-#define KEYS (sizeof keys / sizeof keys[0])
+enum { TERM, KERNEL, SAMPLES, DMAX, KEYS };
 
-/* Reads one pair of a term line; given holds which keys are given before it. */
+/* Reads one pair of a term line; given holds which keys are given before it, as to samples for the last kernel. */
 static bool read_pair(const char *word, const char *value, bool *given)
 {
     size_t key = 0;
@@ -192,11 +235,31 @@ static bool read_pair(const char *word, const char *value, bool *given)
         return fault("is not term, kernel, samples or dmax", word);
     if (value == NULL)
         return fault("has no value", word);
-    if (given[key])
+    if (key == KERNEL && given[KERNEL])
+        given[SAMPLES] = false;
+    else if (given[key])
         return fault("is said twice", word);
     given[key] = true;
     const char *wrong = keys[key].set(value);
     return wrong == NULL || fault(wrong, value);
+}
+
+/* Judges how many channels there are, and what is said of their samples. */
+static bool judge_channels(void)
+{
+    uint8_t channels[TAWINRAK_CHANNEL_BYTES * MOST_TOLD_CHANNELS];
+    put_channels(channels);
+    uint64_t reply = solved(NULL, 0, channels, term.channel_count, term.dmax);
+    if (TAWINRAK_CODE(reply) == TAWINRAK_CHANNEL_COUNT) {
+        note_reply(line_number, "", reply);
+        return false;
+    }
+    if (term.samples_first && term.channel_count > 1)
+        return fault("samples stand before any kernel, and each of several has its own behind it", NULL);
+    for (unsigned i = 0; i < term.channel_count; i++)
+        if (term.channels[i].samples == WORDS && term.channels[i].kernel != TAWINRAK_SPELLING)
+            return fault("words are samples for the spelling kernel alone", NULL);
+    return true;
 }
 
 static bool read_pairs(void)
@@ -207,18 +270,23 @@ static bool read_pairs(void)
     for (size_t key = 0; sound && key < KEYS; key++)
         if (!given[key] && keys[key].missing != NULL)
             sound = fault(keys[key].missing, NULL);
-    if (sound && term.samples == WORDS && term.kernel != TAWINRAK_SPELLING)
-        sound = fault("words are samples for the spelling kernel alone", NULL);
-    return sound;
+    return sound && judge_channels();
 }
 
-/* Judges a term's number beside that of the term before it, on a file of two empty records. */
+static void put_entry(uint8_t *entry, unsigned number, unsigned channel_count)
+{
+    put_number(entry, 2, number);
+    put_number(entry + 2, 1, channel_count);
+}
+
+/* Judges a term's number beside that of the term before it, on a file of two empty records of one channel. */
 static void judge_order(unsigned before)
 {
     uint8_t two[2 * TAWINRAK_ENTRY_BYTES] = {0};
-    put_number(two, 2, before);
-    put_number(two + TAWINRAK_ENTRY_BYTES, 2, term.number);
-    note_reply(line_number, tawinrak_write_file(two, sizeof two, NULL, 0, file, sizeof file));
+    put_entry(two, before, 1);
+    put_entry(two + TAWINRAK_ENTRY_BYTES, term.number, 1);
+    note_reply(line_number, "",
+               tawinrak_write_file(TAWINRAK_FORM_SINGLE, two, sizeof two, NULL, 0, file, sizeof file));
 }
 
 static void keep_entry(void)
@@ -226,18 +294,20 @@ static void keep_entry(void)
     if (!more_to_keep())
         return;
     uint8_t *entry = entries + TAWINRAK_ENTRY_BYTES * entry_count++;
-    put_number(entry, 2, term.number);
-    put_number(entry + 2, 1, term.kernel);
-    put_number(entry + 3, 1, kind_of(term.samples));
-    put_number(entry + 4, 2, term.dmax);
+    put_entry(entry, term.number, term.channel_count);
+    put_channels(entry + 3);
+    put_number(entry + 11, 2, term.dmax);
+    if (term.channel_count > 1)
+        form = TAWINRAK_FORM_CHANNELS;
 }
 
 static void read_term(void)
 {
     static int before = -1;
     end_term();
-    term = (Term){.begun = true, .line = line_number, .samples = COUNTS};
-    spelling_count = 0;
+    term = (Term){.begun = true, .line = line_number};
+    for (unsigned i = 0; i < TAWINRAK_MOST_CHANNELS; i++)
+        spellings[i].count = 0;
     term.sound = read_pairs();
     if (!term.sound)
         return;
@@ -273,84 +343,104 @@ static bool read_count(const char *text, uint64_t *sample)
     return true;
 }
 
-static bool read_real(const char *text, uint64_t *sample)
+static bool read_real(const char *text, bool rounded, uint64_t *sample)
 {
     double share;
     if (!read_share(text, &share))
         return fault("is not a number", text);
-    if (term.samples == ROUNDED_SHARES)
+    if (rounded)
         share = rounded_share(share);
     memcpy(sample, &share, sizeof share);
     return true;
 }
 
 /* The code of a spelling: a new one gets the next. There is room for as many as a record may have. */
-static uint64_t spelling_code(const char *text)
+static uint64_t spelling_code(unsigned channel, const char *text)
 {
-    unsigned index = 0;
-    while (index < spelling_count && strcmp(spellings[index], text) != 0)
+    unsigned index = 0, count = spellings[channel].count;
+    while (index < count && strcmp(spellings[channel].words[index], text) != 0)
         index++;
-    if (index == spelling_count && spelling_count < TAWINRAK_MOST_OBSERVATIONS)
-        strcpy(spellings[spelling_count++], text);
+    if (index == count && count < TAWINRAK_MOST_OBSERVATIONS)
+        strcpy(spellings[channel].words[spellings[channel].count++], text);
     return index + 1;
 }
 
-static bool read_sample(const char *text, uint64_t *sample)
+static bool read_sample(unsigned channel, const char *text, uint64_t *sample)
 {
-    switch (term.samples) {
+    switch (term.channels[channel].samples) {
     case COUNTS:
         return read_count(text, sample);
     case WORDS:
-        *sample = spelling_code(text);
+        *sample = spelling_code(channel, text);
         return true;
     default:
-        return read_real(text, sample);
+        return read_real(text, term.channels[channel].samples == ROUNDED_SHARES, sample);
     }
 }
 
-static void put_observation(uint8_t *bytes, uint32_t day, uint64_t sample)
-{
-    put_number(bytes, 4, day);
-    put_number(bytes + 4, 8, sample);
-}
-
-static void keep_observation(uint32_t day, uint64_t sample)
+static void keep_observation(uint32_t day, const uint64_t *samples)
 {
     if (!more_to_keep())
         return;
     uint8_t *n = entries + TAWINRAK_ENTRY_BYTES * entry_count - 2;
     put_number(n, 2, n[0] + 256u * n[1] + 1);
-    put_observation(bodies + bodies_len, day, sample);
-    bodies_len += TAWINRAK_OBSERVATION_BYTES;
+    bodies_len = (size_t)(put_observation(bodies + bodies_len, day, samples, term.channel_count) - bodies);
 }
 
-/* Judges an observation, on a record of its own behind the day before it, if both days are known. */
-static void judge_observation(bool has_day, uint32_t day, uint64_t sample)
+/* Judges a day behind the day before it, if there is one, on a record of the two. */
+static void judge_day(uint32_t day)
 {
-    uint8_t body[2 * TAWINRAK_OBSERVATION_BYTES];
-    size_t before = has_day && term.has_day;
-    put_observation(body, term.day, 0);
-    put_observation(body + TAWINRAK_OBSERVATION_BYTES * before, day, sample);
-    note_reply(line_number, solved(body, before + 1, TAWINRAK_LINEAR, 1));
+    static const uint8_t channel[TAWINRAK_CHANNEL_BYTES] = {TAWINRAK_LINEAR, TAWINRAK_COUNT};
+    uint8_t body[2 * TAWINRAK_OBSERVATION_BYTES(1)], *end = body;
+    if (term.has_day)
+        end = put_observation(end, term.day, zeros, 1);
+    end = put_observation(end, day, zeros, 1);
+    note_reply(line_number, "", solved(body, (size_t)(end - body), channel, 1, 1));
+    term.has_day = true;
+    term.day = day;
+}
+
+/* Judges a sample on a record of its own; one of several is told by its number. */
+static void judge_sample(unsigned channel, uint64_t sample)
+{
+    uint8_t one[TAWINRAK_CHANNEL_BYTES] = {TAWINRAK_LINEAR, kind_of(&term.channels[channel])};
+    uint8_t body[TAWINRAK_OBSERVATION_BYTES(1)];
+    char of[32] = "";
+    if (term.channel_count > 1)
+        snprintf(of, sizeof of, "sample %u: ", channel + 1);
+    put_observation(body, 0, &sample, 1);
+    note_reply(line_number, of, solved(body, sizeof body, one, 1, 1));
+}
+
+/* Notes that the line at hand has fewer or more fields than an observation of the term at hand. */
+static void note_fields(void)
+{
+    char words[80] = "an observation is two fields, a day and a sample";
+    if (term.channel_count > 1)
+        snprintf(words, sizeof words, "an observation of this term is %u fields, a day and %u samples",
+                 1 + term.channel_count, term.channel_count);
+    fault(words, NULL);
 }
 
 static void read_observation(void)
 {
-    uint32_t day = 0;
-    uint64_t sample = 0;
-    if (line.field_count != 2) {
-        fault("an observation is two fields, a day and a sample", NULL);
+    uint32_t day;
+    uint64_t samples[TAWINRAK_MOST_CHANNELS];
+    if (line.field_count != 1 + term.channel_count) {
+        note_fields();
         return;
     }
-    bool has_day = read_day(line.fields[0], &day);
-    bool has_sample = read_sample(line.fields[1], &sample);
-    judge_observation(has_day, day, sample);
-    if (has_day && has_sample)
-        keep_observation(day, sample);
-    if (has_day) {
-        term.has_day = true;
-        term.day = day;
+    bool sound = read_day(line.fields[0], &day);
+    if (sound)
+        judge_day(day);
+    for (unsigned i = 0; i < term.channel_count; i++) {
+        if (read_sample(i, line.fields[1 + i], &samples[i]))
+            judge_sample(i, samples[i]);
+        else
+            sound = false;
     }
+    if (sound)
+        keep_observation(day, samples);
 }
 
 /* ---- the text */
@@ -399,8 +489,9 @@ static void make_file(void)
     if (entry_count == 0)
         note_fault(line_number > 0 ? line_number : 1, "the text has no line that begins with term", NULL);
     else
-        note_reply(kept_line, tawinrak_write_file(entries, TAWINRAK_ENTRY_BYTES * entry_count, bodies, bodies_len, file,
-                                                  sizeof file));
+        note_reply(kept_line, "",
+                   tawinrak_write_file(form, entries, TAWINRAK_ENTRY_BYTES * entry_count, bodies, bodies_len, file,
+                                       sizeof file));
 }
 
 /* Says why there is no answer, unless its reader has gone. */

@@ -45,7 +45,7 @@ needs_only_memory_functions() {
 has_no_state() { ! "$NM" "$ARCHIVE" | grep -E '^[0-9a-f]+ [BbCDdGgSs] '; }
 
 has_the_functions() {
-    for function in solve read_cuts read_file write_file; do
+    for function in solve read_cuts read_file write_file summarize; do
         "$NM" "$ARCHIVE" | grep -q " T tawinrak_$function\$" || {
             echo "tawinrak_$function is missing"
             return 1
@@ -65,7 +65,7 @@ check_archive() {
     check "the archive has the functions" has_the_functions
     check "calls at the same time" "$made/together.sh"
     check "the largest positions" "$made/positions.sh"
-    check "the header in C" header_alone c "$CC" -std=c99
+    check "the header in C" header_alone c "$CC" -std=c11
     if command -v c++ >/dev/null 2>&1; then check "the header in C++" header_alone c++ c++ -std=c++11; fi
 }
 
@@ -152,7 +152,9 @@ same_text() { # FILE
     "$made/cuts_of_file.sh" <"$1" | diff "$made/cuts.text" - && "$rust/second" <"$1" | diff "$made/cuts.text" -
 }
 
-example_is_made() { "$made/make_record.sh" <"$root/examples/year.txt" | cmp - "$root/examples/year.record"; }
+example_is_made() { # NAME
+    "$made/make_record.sh" <"$root/examples/$1.txt" | cmp - "$root/examples/$1.record"
+}
 
 make_files() {
     rules_example >"$made/rules.record"
@@ -165,7 +167,9 @@ check_examples() {
     check "the rules' example in C" same_text "$made/rules.record"
     check "the year in C" same_text "$root/examples/year.record"
     check "a long file in C" same_text "$made/long.record"
-    check "the year is made of its text" example_is_made
+    check "the year is made of its text" example_is_made year
+    check "the term of three channels in C" same_text "$root/examples/three.record"
+    check "the term of three channels is made of its text" example_is_made three
 }
 
 # The program cuts and the scripts are tried only where they are the real ones.

@@ -1,13 +1,15 @@
 /*
- * driver.c: runs the four C functions on requests from standard input and answers
+ * driver.c: runs the five C functions on requests from standard input and answers
  * with the reply and every lent byte. Each slice lies right against unreadable
- * memory, and each call runs on a thread whose whole stack is 16 KiB.
+ * memory. Each call runs on a thread whose whole stack is 16 KiB; a solve of several
+ * channels on one that has 16 KiB for the call.
  *
  * A request: call (1 byte), placing (1 byte), three numbers (8 bytes each), then
  * for every slice of that call its length (8 bytes) and its bytes.
- * Calls: 0 idle, 1 solve (kind, kernel, dmax; body, costs, starts),
+ * Calls: 0 idle, 1 solve (dmax; body, channels, costs, starts),
  * 2 read cuts (n, d, kernel; starts, out), 3 read file (file),
- * 4 write file (entries, bodies, out).
+ * 4 write file (form; entries, bodies, out),
+ * 5 summarize (first, length; body, channels, out).
  * Placing, bit 0: the unreadable memory comes after each slice (0) or before it (1);
  * bit 1: an empty slice is NULL (0) or a pointer to unreadable memory (1).
  * An answer: the reply (8 bytes), the stack bytes used (4), 1 if bytes beside a
@@ -27,7 +29,7 @@
 enum {
     SLICE_ROOM = 32 * ROOM_PAGE,
     MARGIN = 256, /* bytes beside a slice that are watched */
-    MOST_SLICES = 3,
+    MOST_SLICES = 4,
     SECONDS = 60, /* after which a call counts as endless */
     PAINT = 0xC7
 };
@@ -89,7 +91,7 @@ static Lent read_slice(Room room, uint8_t placing)
 
 static unsigned slices_of(uint8_t call)
 {
-    static const unsigned count[] = {0, 3, 2, 1, 3};
+    static const unsigned count[] = {0, 4, 2, 1, 3, 3};
     if (call >= sizeof count / sizeof count[0])
         fail("no such call");
     return count[call];
@@ -101,8 +103,8 @@ static void run_call(void)
     const uint64_t *number = request.number;
     switch (request.call) {
     case 1:
-        request.reply = tawinrak_solve(lent[0].bytes, lent[0].length, number[0], number[1], number[2],
-                                       lent[1].bytes, lent[1].length, lent[2].bytes, lent[2].length);
+        request.reply = tawinrak_solve(lent[0].bytes, lent[0].length, lent[1].bytes, lent[1].length, number[0],
+                                       lent[2].bytes, lent[2].length, lent[3].bytes, lent[3].length);
         break;
     case 2:
         request.reply = tawinrak_read_cuts(lent[0].bytes, lent[0].length, number[0], number[1], number[2],
@@ -112,8 +114,12 @@ static void run_call(void)
         request.reply = tawinrak_read_file(lent[0].bytes, lent[0].length);
         break;
     case 4:
-        request.reply = tawinrak_write_file(lent[0].bytes, lent[0].length, lent[1].bytes, lent[1].length,
+        request.reply = tawinrak_write_file(number[0], lent[0].bytes, lent[0].length, lent[1].bytes, lent[1].length,
                                             lent[2].bytes, lent[2].length);
+        break;
+    case 5:
+        request.reply = tawinrak_summarize(lent[0].bytes, lent[0].length, lent[1].bytes, lent[1].length, number[0],
+                                           number[1], lent[2].bytes, lent[2].length);
         break;
     }
 }
@@ -136,12 +142,18 @@ static void read_request(const Room *rooms, unsigned slices)
     request.reply = 0;
 }
 
+/* The whole stack of the thread that the call runs on. */
+static uint32_t stack_of_call(void)
+{
+    return request.call == 1 && request.slice[1].length > TAWINRAK_CHANNEL_BYTES ? BESIDE_STACK : SMALL_STACK;
+}
+
 static void answer_request(const Room *rooms)
 {
     unsigned slices = slices_of(request.call);
     read_request(rooms, slices);
     alarm(SECONDS);
-    uint32_t used = run_on_small_stack(run_call);
+    uint32_t used = run_on_stack(stack_of_call(), run_call);
     alarm(0);
     uint32_t changed = margins_changed(slices);
     write_all(&request.reply, sizeof request.reply);

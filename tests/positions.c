@@ -1,6 +1,6 @@
 /*
- * positions.c: lends the writer 64 entries of the most observations that an entry can name, and runs of
- * bodies far longer than the driver's slices, round the longest that ends inside a body. Holds code, place
+ * positions.c: lends the writer 64 entries of the most observations and channels that an entry can name, and
+ * runs of bodies far longer than the driver's slices, round the longest that ends inside a body. Holds code, place
  * and position to what is due, and the output to what it was, byte for byte.
  */
 #include "tawinrak.h"
@@ -10,9 +10,9 @@
 #include <string.h>
 
 enum {
-    MOST = 65535,                             /* observations of each entry */
-    BODY = TAWINRAK_OBSERVATION_BYTES * MOST, /* 786,420 bytes */
-    ALL = TAWINRAK_MOST_RECORDS * BODY,       /* 50,330,880 bytes */
+    MOST = 65535,                                                     /* observations of each entry */
+    BODY = TAWINRAK_OBSERVATION_BYTES(TAWINRAK_MOST_CHANNELS) * MOST, /* 2,359,260 bytes */
+    ALL = TAWINRAK_MOST_RECORDS * BODY,                               /* 150,992,640 bytes */
     PAINT = 0xC7
 };
 
@@ -25,12 +25,12 @@ typedef struct {
 /* Among them the largest position there is, and positions round 2^24, which a place is below. */
 static const Run runs[] = {
     {0, TAWINRAK_BODY_PAST_END, 0, 0},
-    {(1 << 24) - 1, TAWINRAK_BODY_PAST_END, 21, 16777215},
-    {1 << 24, TAWINRAK_BODY_PAST_END, 21, 16777216},
-    {(1 << 24) + 5, TAWINRAK_BODY_PAST_END, 21, 16777221},
-    {63 * BODY - 1, TAWINRAK_BODY_PAST_END, 62, 49544459},
-    {63 * BODY, TAWINRAK_BODY_PAST_END, 63, 49544460},
-    {ALL - 1, TAWINRAK_BODY_PAST_END, 63, 50330879},
+    {(1 << 24) - 1, TAWINRAK_BODY_PAST_END, 7, 16777215},
+    {1 << 24, TAWINRAK_BODY_PAST_END, 7, 16777216},
+    {(1 << 24) + 5, TAWINRAK_BODY_PAST_END, 7, 16777221},
+    {63 * BODY - 1, TAWINRAK_BODY_PAST_END, 62, 148633379},
+    {63 * BODY, TAWINRAK_BODY_PAST_END, 63, 148633380},
+    {ALL - 1, TAWINRAK_BODY_PAST_END, 63, 150992639},
     {ALL, TAWINRAK_FILE_TOO_LONG, 0, 0},
     {ALL + 1, TAWINRAK_BYTES_LEFT_OVER, 0, 0},
 };
@@ -43,9 +43,11 @@ static void make_entries(void)
     for (unsigned i = 0; i < TAWINRAK_MOST_RECORDS; i++) {
         uint8_t *entry = entries + TAWINRAK_ENTRY_BYTES * i;
         entry[0] = (uint8_t)i;
-        entry[2] = TAWINRAK_LINEAR;
-        entry[4] = 1;
-        entry[6] = entry[7] = 255;
+        entry[2] = TAWINRAK_MOST_CHANNELS;
+        for (unsigned channel = 0; channel < TAWINRAK_MOST_CHANNELS; channel++)
+            entry[3 + TAWINRAK_CHANNEL_BYTES * channel] = TAWINRAK_LINEAR;
+        entry[11] = 1;
+        entry[13] = entry[14] = 255;
     }
 }
 
@@ -53,7 +55,8 @@ static void make_entries(void)
 static int holds(const uint8_t *bodies, const Run *run)
 {
     memset(out, PAINT, sizeof out);
-    uint64_t reply = tawinrak_write_file(entries, sizeof entries, bodies, run->length, out, sizeof out);
+    uint64_t reply = tawinrak_write_file(TAWINRAK_FORM_CHANNELS, entries, sizeof entries, bodies, run->length, out,
+                                         sizeof out);
     unsigned code = TAWINRAK_CODE(reply), place = TAWINRAK_PLACE(reply), position = TAWINRAK_POSITION(reply);
     int untouched = memcmp(out, painted, sizeof out) == 0;
     if (code == run->code && place == run->place && position == run->position && untouched)

@@ -1,5 +1,5 @@
 /*
- * together.c: runs the four C functions on several threads at the same time, each thread
+ * together.c: runs the five C functions on several threads at the same time, each thread
  * on slices of its own, and holds all that they leave to what the same calls leave alone.
  */
 #define _GNU_SOURCE
@@ -10,16 +10,25 @@
 #include <stdlib.h>
 #include <string.h>
 
-enum { THREADS = 4, ROUNDS = 400, N = 90, D = TAWINRAK_MOST_SEGMENTS, BODY = TAWINRAK_OBSERVATION_BYTES * N };
+enum {
+    THREADS = 4,
+    ROUNDS = 400,
+    N = 90,
+    D = TAWINRAK_MOST_SEGMENTS,
+    CALLS = 5,
+    WIDEST = TAWINRAK_OBSERVATION_BYTES(TAWINRAK_MOST_CHANNELS),
+    CHANNELS = TAWINRAK_CHANNEL_BYTES * TAWINRAK_MOST_CHANNELS
+};
 
 /* All that one thread lends, and the replies. */
 typedef struct {
-    uint64_t kernel, replies[4];
-    uint8_t body[BODY];
+    uint64_t count, replies[CALLS]; /* count of channels */
+    uint8_t body[WIDEST * N], channels[CHANNELS];
     uint8_t costs[TAWINRAK_COST_BYTES(N, D)], starts[TAWINRAK_START_BYTES(N, D)];
     uint8_t cuts[TAWINRAK_STARTS_OUT_BYTES];
     uint8_t entry[TAWINRAK_ENTRY_BYTES];
-    uint8_t file[TAWINRAK_FILE_COUNT_BYTES + TAWINRAK_FILE_ENTRY_BYTES + BODY];
+    uint8_t file[TAWINRAK_FILE_HEAD_BYTES + TAWINRAK_FILE_ENTRY_BYTES(TAWINRAK_FORM_CHANNELS) + WIDEST * N];
+    uint8_t summaries[TAWINRAK_SUMMARIES_OUT_BYTES];
 } Slices;
 
 static Slices fresh[THREADS], alone[THREADS];
@@ -34,28 +43,37 @@ static void check(int good, const char *what)
     }
 }
 
-/* Another record for each thread, and the kernels in turn. */
+/* Another record for each thread, of one channel more than that of the thread before, and the kernels in turn. */
 static void draw(Slices *slices, unsigned thread)
 {
     memset(slices, 0, sizeof *slices);
-    slices->kernel = TAWINRAK_LINEAR + thread % 3;
+    slices->count = 1 + thread % TAWINRAK_MOST_CHANNELS;
     for (unsigned i = 0; i < N; i++) {
-        slices->body[TAWINRAK_OBSERVATION_BYTES * i] = (uint8_t)i;
-        slices->body[TAWINRAK_OBSERVATION_BYTES * i + 4] = (uint8_t)((thread + 3) * i * i / 7 % (thread + 5));
+        uint8_t *observation = slices->body + TAWINRAK_OBSERVATION_BYTES(slices->count) * i;
+        observation[0] = (uint8_t)i;
+        for (unsigned channel = 0; channel < slices->count; channel++)
+            observation[4 + 8 * channel] = (uint8_t)((thread + 3) * i * i / (7 + channel) % (thread + channel + 5));
     }
+    for (unsigned channel = 0; channel < slices->count; channel++)
+        slices->channels[TAWINRAK_CHANNEL_BYTES * channel] = (uint8_t)(TAWINRAK_LINEAR + (thread + channel) % 3);
     slices->entry[0] = (uint8_t)thread;
-    slices->entry[6] = N;
+    slices->entry[2] = (uint8_t)slices->count;
+    memcpy(slices->entry + 3, slices->channels, sizeof slices->channels);
+    slices->entry[13] = N;
 }
 
 static void call_all(Slices *lent)
 {
-    lent->replies[0] = tawinrak_solve(lent->body, sizeof lent->body, TAWINRAK_COUNT, lent->kernel, D, lent->costs,
-                                      sizeof lent->costs, lent->starts, sizeof lent->starts);
-    lent->replies[1] = tawinrak_read_cuts(lent->starts, sizeof lent->starts, N, D, lent->kernel, lent->cuts,
+    size_t body = TAWINRAK_OBSERVATION_BYTES(lent->count) * N, channels = TAWINRAK_CHANNEL_BYTES * lent->count;
+    lent->replies[0] = tawinrak_solve(lent->body, body, lent->channels, channels, D, lent->costs, sizeof lent->costs,
+                                      lent->starts, sizeof lent->starts);
+    lent->replies[1] = tawinrak_read_cuts(lent->starts, sizeof lent->starts, N, D, lent->channels[0], lent->cuts,
                                           sizeof lent->cuts);
-    lent->replies[2] = tawinrak_write_file(lent->entry, sizeof lent->entry, lent->body, sizeof lent->body, lent->file,
-                                           sizeof lent->file);
-    lent->replies[3] = tawinrak_read_file(lent->file, sizeof lent->file);
+    lent->replies[2] = tawinrak_write_file(TAWINRAK_FORM_CHANNELS, lent->entry, sizeof lent->entry, lent->body, body,
+                                           lent->file, sizeof lent->file);
+    lent->replies[3] = tawinrak_read_file(lent->file, sizeof lent->file - sizeof lent->body + body);
+    lent->replies[4] = tawinrak_summarize(lent->body, body, lent->channels, channels, 1, N - 2, lent->summaries,
+                                          sizeof lent->summaries);
 }
 
 static void *run_thread(void *number)
@@ -77,7 +95,7 @@ static void run_alone(void)
         draw(&fresh[i], i);
         memcpy(&alone[i], &fresh[i], sizeof alone[i]);
         call_all(&alone[i]);
-        for (unsigned call = 0; call < 4; call++)
+        for (unsigned call = 0; call < CALLS; call++)
             check(alone[i].replies[call] == TAWINRAK_DONE, "a call is refused");
     }
 }

@@ -8,7 +8,7 @@
 #include <stdlib.h>
 #include <string.h>
 
-enum { STACK = 16384, PAINT = 0xC7 };
+enum { PAINT = 0xC7 };
 
 static struct {
     Room room;
@@ -41,18 +41,22 @@ static void check(int error, const char *what)
     }
 }
 
-uint32_t run_on_small_stack(void (*call)(void))
+uint32_t run_on_stack(uint32_t whole, void (*call)(void))
 {
     pthread_attr_t attributes;
     pthread_t thread;
     if (run.room.start == NULL)
         run.room = take_room(ROOM_PAGE);
     run.call = call;
-    memset(run.room.start, PAINT, STACK);
+    memset(run.room.start, PAINT, whole);
     check(pthread_attr_init(&attributes), "cannot describe a thread");
-    check(pthread_attr_setstack(&attributes, run.room.start, STACK), "a stack of 16 KiB is not allowed");
+    check(pthread_attr_setstack(&attributes, run.room.start, whole), "so small a stack is not allowed");
     check(pthread_create(&thread, &attributes, run_and_measure, NULL), "cannot start a thread");
     check(pthread_join(thread, NULL), "cannot wait for a thread");
     check(pthread_attr_destroy(&attributes), "cannot end a thread");
+    if (run.used > MOST_STACK) {
+        fprintf(stderr, "a call used %u bytes of stack, more than 16 KiB\n", (unsigned)run.used);
+        exit(3);
+    }
     return run.used;
 }

@@ -9,7 +9,7 @@
 #define LINE_BYTES 1000u
 #define TEXT_BYTES 16777216u
 
-#define MOST_FIELDS 10u
+#define MOST_FIELDS 32u
 
 typedef struct {
     char bytes[LINE_BYTES + 1];

@@ -23,6 +23,18 @@ with_two_entries() { # NAME [OFFSET OCTAL]...
     put_bytes "$@"
 }
 
+# The rules' example with a second channel, and bytes put into other places.
+with_channels() { # NAME [OFFSET OCTAL]...
+    printf 'term 5 kernel linear kernel energy dmax 2\n10 0 0\n11 0 0\n14 10 10\n' | "$made/make_record.sh" >"$made/$1.record" &&
+        put_bytes "$@"
+}
+
+# The rules' example in form 1.
+in_form_1() {
+    printf '\001\001\005\000\001\001\000\000\000\000\000\000\000\002\000\003\000\025\000\000\000' >"$made/form_1.record" &&
+        tail -c +15 "$made/rules.record" >>"$made/form_1.record"
+}
+
 make_refused_files() {
     head -c 1 "$made/rules.record" >"$made/20.record"
     with_bytes 21 0 '\000'
@@ -37,6 +49,21 @@ make_refused_files() {
     head -c 49 "$made/rules.record" >"$made/28_cut.record"
     with_two_entries 28_later 14 '\006' 22 '\076'
     make_files_of_refused_terms
+    make_refused_files_of_channels
+}
+
+make_refused_files_of_channels() {
+    with_bytes 21_form 1 '\002'
+    with_channels 22_form_1 17 '\026'
+    with_channels 24_second 8 '\002'
+    with_channels 24_unused 12 '\001'
+    with_channels 28_form_1 15 '\004'
+    with_channels 29 4 '\000'
+    with_channels 29_five 4 '\005'
+    with_channels 6_second 7 '\004'
+    with_channels 9_second 8 '\001' 39 '\360\377'
+    with_channels 10_second 53 '\101\102\017'
+    with_channels 11_second 8 '\001'
 }
 
 make_files_of_refused_terms() {
@@ -84,6 +111,25 @@ check_refused_files() {
         "file: the body passes the end, at entry 0, byte 50 (code 28)"
 }
 
+check_channels() {
+    check "a file of form 2" refusal 21_form 2 "file code 21 place 0 at 0" ''
+    check "a wrong offset in form 1" refusal 22_form_1 2 "file code 22 place 0 at 17" ', at entry 0, byte 17'
+    check "a second channel's sample kind" refusal 24_second 2 "file code 24 place 0 at 0" ', at entry 0'
+    check "an unused channel that is not 0" refusal 24_unused 2 "file code 24 place 0 at 0" ', at entry 0'
+    check "a body past the end in form 1" refusal 28_form_1 2 "file code 28 place 0 at 81" ', at entry 0, byte 81'
+    check "no channel" refusal 29 2 "file code 29 place 0 at 0" ', at entry 0'
+    check "five channels" refusal 29_five 2 "file code 29 place 0 at 0" ', at entry 0'
+    check "a second channel's kernel" refusal 6_second 1 "term 5 code 6 place 0" ''
+    check "a second channel's share that is infinite" refusal 9_second 1 "term 5 code 9 place 0" ', at index 0'
+    check "a second channel's sample out of range" refusal 10_second 1 "term 5 code 10 place 1" ', at index 1'
+    check "a second channel's share that is not whole" refusal 11_second 1 "term 5 code 11 place 2" ', at index 2'
+    check "two channels" with_channels two_channels
+    check "the lines of two channels" answers 0 "term 5 code 0 place 0${newline}1 300373${newline}2 0 2:12$newline" "" \
+        "$root/cuts" "$made/two_channels.record"
+    check "a file of form 1" in_form_1
+    check "one channel's lines in form 1" answers 0 "$("$root/cuts" "$made/rules.record")$newline" "" "$root/cuts" "$made/form_1.record"
+}
+
 check_refusals() {
     check "files to refuse" make_refused_files
     check_refused_files
@@ -92,6 +138,7 @@ check_refusals() {
     check "a term refused with 9" refusal 9 1 "term 5 code 9 place 0" ', at index 0'
     check "a term refused with 10" refusal 10 1 "term 5 code 10 place 1" ', at index 1'
     check "a term refused with 11" refusal 11 1 "term 5 code 11 place 2" ', at index 2'
+    check_channels
 }
 
 # Two terms, of which the second has a day that is not above the day before it, at index 12.

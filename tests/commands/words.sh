@@ -3,7 +3,7 @@
 # The sentences of all codes of the rules, by the function of the header and by the script's reading of it:
 # of a term, and of a file with a position.
 same_words() {
-    for code in 1 2 3 4 5 6 7 8 9 10 11 12 13 14 20 21 22 23 24 25 26 27 28; do
+    for code in 1 2 3 4 5 6 7 8 9 10 11 12 13 14 20 21 22 23 24 25 26 27 28 29; do
         echo "term 1 code $code place 3"
         echo "file code $code place 3 at 70"
     done | awk -f "$root/tools/sentences.awk" "$root/include/tawinrak.h" - >"$made/by_script"

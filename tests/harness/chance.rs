@@ -1,14 +1,13 @@
 //! Calls and files drawn so that every reply comes about by chance.
 
-use crate::files::{bodies, file_of, lent_entries, of_lengths, put, sound, Entry, LENGTH};
+use crate::files::{form, of_lengths, put, sound, Records};
 use crate::peers::{Outcome, Peers};
-use crate::records::{Record, LOOKS};
+use crate::records::{Lent, Record, LOOKS};
 use crate::request::Request;
 use crate::rng::Rng;
-use second::calls::STARTS_OUT;
+use second::calls::{STARTS_OUT, SUMMARIES_OUT};
 use second::cuttings::MOST;
-use second::file::{COUNT, FILE_ENTRY};
-use second::record::{Asked, OBSERVATION};
+use second::record::observation;
 
 /// Flips bits, overwrites, cuts and extends, a few times in all.
 fn damage(rng: &mut Rng, bytes: &mut Vec<u8>, often: usize) {
@@ -48,23 +47,40 @@ fn round(rng: &mut Rng, needed: usize) -> usize {
     (needed + rng.below(24)).saturating_sub(rng.pick(&[0, 0, 0, 3, 8]))
 }
 
-pub fn solve(rng: &mut Rng, _: usize, peers: &mut Peers) -> Outcome {
-    let n = length(rng);
+/// A record of n observations with damage here and there.
+fn damaged_record(rng: &mut Rng, n: usize) -> Lent {
     let look = rng.pick(&LOOKS);
-    let asked = Asked {
-        kind: small(rng, 1),
-        kernel: if rng.chance(85) { 1 + rng.below(3) as u64 } else { small(rng, 4) },
-        most: small(rng, (n + 1).min(MOST + 1)),
-    };
-    let mut body = Record::new(rng, look, n).body(asked.kind);
+    let record = Record::new(rng, look, n);
+    let mut lent = record.lent();
     if n > 0 && rng.chance(30) {
         let mostly_ones = rng.next() | rng.next() | rng.next() | rng.next();
-        put(&mut body, OBSERVATION * rng.below(n) + 4, 8, mostly_ones);
+        let channel = rng.below(record.channels.len());
+        let at = observation(record.channels.len()) * rng.below(n) + observation(channel);
+        put(&mut lent.body, (at, 8), mostly_ones);
     }
-    damage(rng, &mut body, 2);
-    let entries = asked.most.min(MOST as u64) as usize * (n + 1);
+    damage(rng, &mut lent.body, 2);
+    if rng.chance(25) {
+        damage(rng, &mut lent.channels, 1);
+    }
+    lent
+}
+
+pub fn solve(rng: &mut Rng, _: usize, peers: &mut Peers) -> Outcome {
+    let n = length(rng);
+    let lent = damaged_record(rng, n);
+    let most = small(rng, (n + 1).min(MOST + 1));
+    let entries = most.min(MOST as u64) as usize * (n + 1);
     let (costs, starts) = (round(rng, 8 * entries), round(rng, 2 * entries));
-    peers.call(&Request::solve(body, asked, rng.bytes(costs), rng.bytes(starts))).map(|_| ())
+    peers.call(&Request::solve(lent, most, rng.bytes(costs), rng.bytes(starts))).map(|_| ())
+}
+
+pub fn summarize(rng: &mut Rng, _: usize, peers: &mut Peers) -> Outcome {
+    let n = length(rng);
+    let lent = damaged_record(rng, n);
+    let first = small(rng, n);
+    let stretch = small(rng, n.saturating_sub(first as usize % 500) + 1);
+    let out = SUMMARIES_OUT + rng.below(24) - rng.pick(&[0, 0, 1, 24, SUMMARIES_OUT]);
+    peers.call(&Request::summarize(lent, first, stretch, rng.bytes(out))).map(|_| ())
 }
 
 pub fn read_cuts(rng: &mut Rng, _: usize, peers: &mut Peers) -> Outcome {
@@ -84,11 +100,12 @@ pub fn read_cuts(rng: &mut Rng, _: usize, peers: &mut Peers) -> Outcome {
     peers.call(&Request::read_cuts(starts, n, count, kernel, rng.bytes(out))).map(|_| ())
 }
 
-/// A file of a few records, damaged mostly in its count and contents.
+/// A file of a few records, damaged mostly in its count, form and contents.
 pub fn damaged_file(rng: &mut Rng) -> Vec<u8> {
     let count = if rng.chance(10) { 60 + rng.below(8) } else { 1 + rng.below(5) };
-    let mut file = file_of(&sound_and_short(rng, count));
-    let mut head: Vec<u8> = file.drain(..(COUNT + FILE_ENTRY * count).min(file.len())).collect();
+    let records = sound_and_short(rng, count);
+    let mut file = records.file();
+    let mut head: Vec<u8> = file.drain(..records.contents().min(file.len())).collect();
     match rng.below(4) {
         0 => damage(rng, &mut file, 3),
         1 => damage(rng, &mut head, 2),
@@ -104,12 +121,13 @@ pub fn damaged_file(rng: &mut Rng) -> Vec<u8> {
     [head, file].concat()
 }
 
-fn sound_and_short(rng: &mut Rng, count: usize) -> Vec<Entry> {
+fn sound_and_short(rng: &mut Rng, count: usize) -> Records {
+    let form = form(rng);
     if count < 6 {
-        return sound(rng, count);
+        return sound(rng, form, count);
     }
     let lengths: Vec<usize> = (0..count).map(|_| 1 + rng.below(6)).collect();
-    of_lengths(rng, &lengths)
+    of_lengths(rng, form, &lengths)
 }
 
 pub fn read_file(rng: &mut Rng, _: usize, peers: &mut Peers) -> Outcome {
@@ -124,20 +142,19 @@ pub fn read_file(rng: &mut Rng, _: usize, peers: &mut Peers) -> Outcome {
 
 pub fn write_file(rng: &mut Rng, _: usize, peers: &mut Peers) -> Outcome {
     let count = if rng.chance(10) { 60 + rng.below(8) } else { 1 + rng.below(5) };
-    let entries = sound_and_short(rng, count);
-    let (mut lent, mut run) = (lent_entries(&entries), bodies(&entries));
-    let fitting = file_of(&entries).len();
+    let mut records = sound_and_short(rng, count);
     if rng.chance(5) {
-        let more = 5_400 + rng.below(300);
-        run.extend(rng.bytes(OBSERVATION * more));
-        let n = entries[count - 1].body.len() / OBSERVATION + more;
-        let last = lent.len() - LENGTH.1;
-        put(&mut lent, last, LENGTH.1, n as u64);
+        let last = &mut records.entries[count - 1];
+        let n = 5_400 + rng.below(300);
+        last.fill(rng, n);
     }
+    let fitting = records.contents() + records.bodies().len();
+    let (mut lent, mut run) = (records.lent(), records.bodies());
     damage(rng, &mut lent, 1);
     if rng.chance(20) {
         damage(rng, &mut run, 1);
     }
+    let form = if rng.chance(10) { small(rng, 3) } else { records.form };
     let out = round(rng, fitting);
-    peers.call(&Request::write_file(lent, run, rng.bytes(out))).map(|_| ())
+    peers.call(&Request::write_file(form, lent, run, rng.bytes(out))).map(|_| ())
 }

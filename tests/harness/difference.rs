@@ -2,7 +2,7 @@
 
 use crate::request::{Call, Left, Request};
 use second::number::number;
-use second::record::OBSERVATION;
+use second::record::{observation, CHANNEL};
 
 /// The first difference in words, or none.
 pub fn between(request: &Request, expected: &Left, got: &Left) -> Option<String> {
@@ -24,22 +24,25 @@ fn in_slice(request: &Request, which: usize, expected: &[u8], got: &[u8]) -> Opt
     Some(words + &entry_words(request, which, place, expected, got))
 }
 
-/// Names the table entry that a byte of a solve's tables lies in.
+/// Names the table entry, or the part of a summary, that a byte of what a call writes lies in.
 fn entry_words(request: &Request, which: usize, place: usize, expected: &[u8], got: &[u8]) -> String {
-    if request.call != Call::Solve || which == 0 {
-        return String::new();
-    }
-    let width = if which == 1 { 8 } else { 2 };
+    let width = match (request.call, request.call.slice_names()[which]) {
+        (Call::Solve, "starts") => 2,
+        (Call::Solve, "costs") | (Call::Summarize, "out") => 8,
+        _ => return String::new(),
+    };
     let entry = place / width;
-    let columns = request.slices[0].len() / OBSERVATION + 1;
     let bytes = entry * width..(entry * width + width).min(expected.len());
-    format!(
-        "; row D = {}, column t = {}: expected {}, got {}",
-        entry / columns + 1,
-        entry % columns,
-        number(&expected[bytes.clone()]),
-        number(&got[bytes])
-    )
+    let held = |left: &[u8]| number(&left[bytes.clone()]);
+    format!("; {}: expected {}, got {}", name_of_entry(request, entry), held(expected), held(got))
+}
+
+fn name_of_entry(request: &Request, entry: usize) -> String {
+    if request.call == Call::Summarize {
+        return format!("{} of summary {}", ["first index", "length", "sum", "mean's bits"][entry % 4], entry / 4);
+    }
+    let columns = request.slices[0].len() / observation(request.slices[1].len() / CHANNEL) + 1;
+    format!("row D = {}, column t = {}", entry / columns + 1, entry % columns)
 }
 
 /// The first line that differs.

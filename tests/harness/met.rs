@@ -1,15 +1,16 @@
 //! What the cases have met: calls, files, codes, and the stack used.
 
-use crate::request::Call;
+use crate::request::{Call, CALLS};
 use std::collections::BTreeMap;
 
 /// The codes that each C function can be brought to answer with, and the cases must. 12, whose reason
-/// never holds, and 14, which none of them asks for, are not among them.
-pub const CODES: [(Call, &[u64]); 4] = [
-    (Call::Solve, &[0, 1, 2, 3, 4, 5, 6, 7, 8, 9, 10, 11, 24]),
+/// never holds, is not among them.
+pub const CODES: [(Call, &[u64]); CALLS.len()] = [
+    (Call::Solve, &[0, 1, 2, 3, 4, 5, 6, 7, 8, 9, 10, 11, 24, 29]),
     (Call::ReadCuts, &[0, 1, 2, 4, 5, 6, 7, 13]),
-    (Call::ReadFile, &[0, 20, 21, 22, 23, 24, 25, 26, 28]),
-    (Call::WriteFile, &[0, 20, 21, 23, 24, 25, 26, 27, 28]),
+    (Call::ReadFile, &[0, 20, 21, 22, 23, 24, 25, 26, 28, 29]),
+    (Call::WriteFile, &[0, 20, 21, 23, 24, 25, 26, 27, 28, 29]),
+    (Call::Summarize, &[0, 1, 2, 3, 6, 7, 8, 9, 10, 11, 14, 24, 29]),
 ];
 
 /// How often each code is expected of each C function, and in the text of a file.
@@ -21,9 +22,9 @@ pub const TEXT: &str = "cuts";
 /// The tally of one worker, or of all.
 #[derive(Default)]
 pub struct Met {
-    pub calls: [u64; 5],
+    pub calls: [u64; 1 + CALLS.len()],
     pub files: u64,
-    pub stack: [u32; 5],
+    pub stack: [u32; 1 + CALLS.len()],
     pub on_purpose: Codes,
     pub by_chance: Codes,
 }

@@ -2,15 +2,15 @@
 
 use crate::calendar::DATED;
 use crate::difference;
-use crate::files::{file_of, of_lengths, put, Entry};
+use crate::files::{held, of_lengths, put, Entry, Records, SEVERAL, SINGLE};
 use crate::packed::Packed;
 use crate::peers::{Outcome, Peers};
-use crate::records::{bits, body, days, length, LIMIT};
+use crate::records::{bits, body, channel, days, length, KERNELS, LIMIT, SPELLING};
 use crate::rng::Rng;
 use crate::telling::refusals;
-use crate::texts::{in_decimals, in_digits, rows_of, Text};
-use second::number::number;
-use second::record::OBSERVATION;
+use crate::texts::{in_decimals, in_digits, rows_of, Row, Text, Written};
+use second::file::LONGEST;
+use second::record::{observation, Channel, MOST_CHANNELS};
 
 /// Packs a text of which the file is to come.
 fn pack_into(peers: &mut Peers, text: &Text, file: &[u8]) -> Outcome {
@@ -30,17 +30,28 @@ fn pack_in_vain(peers: &mut Peers, text: &Text, faulty: &[usize]) -> Outcome {
     })
 }
 
-/// A few sound entries, their lengths drawn so. Their days often have dates, and their shares are -0.0 now and then.
+/// The file that is made of entries: of form 0 where every term has one channel.
+fn file_of(entries: &[Entry]) -> Vec<u8> {
+    let form = if entries.iter().all(|entry| entry.channels.len() == 1) { SINGLE } else { SEVERAL };
+    Records::of(form, entries.to_vec()).file()
+}
+
+/// A few sound entries, their lengths drawn so, in half of the texts of one channel each. Their days often have
+/// dates, and their shares are -0.0 now and then.
 fn drawn(rng: &mut Rng, length: fn(&mut Rng) -> usize) -> Vec<Entry> {
-    let lengths: Vec<usize> = (0..1 + rng.below(6)).map(|_| length(rng)).collect();
-    let mut entries = of_lengths(rng, &lengths);
+    let count = 1 + rng.below(6);
+    let most = LONGEST / observation(MOST_CHANNELS) / count - 1;
+    let lengths: Vec<usize> = (0..count).map(|_| length(rng).min(most)).collect();
+    let form = rng.pick(&[SINGLE, SEVERAL]);
+    let mut entries = of_lengths(rng, form, &lengths).entries;
     for entry in &mut entries {
         if rng.chance(60) {
             put_dated_days(rng, entry);
         }
-        if entry.kind == 1 && rng.chance(30) {
-            let at = OBSERVATION * rng.below(entry.body.len() / OBSERVATION) + 4;
-            put(&mut entry.body, at, 8, (-0.0f64).to_bits());
+        let place = rng.below(entry.channels.len());
+        if entry.channels[place].kind == 1 && rng.chance(30) {
+            let span = entry.sample(rng.below(entry.n()), place);
+            put(&mut entry.body, span, (-0.0f64).to_bits());
         }
     }
     entries
@@ -48,11 +59,11 @@ fn drawn(rng: &mut Rng, length: fn(&mut Rng) -> usize) -> Vec<Entry> {
 
 /// Puts days that all have dates: in a row, or spread over all such days.
 fn put_dated_days(rng: &mut Rng, entry: &mut Entry) {
-    let n = entry.body.len() / OBSERVATION;
+    let (n, width) = (entry.n(), entry.width());
     let widest = rng.pick(&[1, 40, DATED as usize / n]);
     let mut day = rng.below(DATED as usize - widest * n + 1);
     for index in 0..n {
-        put(&mut entry.body, OBSERVATION * index, 4, day as u64);
+        put(&mut entry.body, (width * index, 4), day as u64);
         day += 1 + rng.below(widest);
     }
 }
@@ -61,16 +72,20 @@ fn put_dated_days(rng: &mut Rng, entry: &mut Entry) {
 fn text_of(rng: &mut Rng, entries: &[Entry]) -> Text {
     let mut rows = Vec::new();
     for entry in entries {
-        let named = ["counts", "shares"][usize::from(entry.kind)];
-        let samples: Vec<String> =
-            entry.body.chunks(OBSERVATION).map(|one| sample(rng, entry.kind, &one[4..])).collect();
-        rows.extend(rows_of(rng, entry, named, &samples));
+        let written: Vec<Written> = (0..entry.channels.len()).map(|place| written(rng, entry, place)).collect();
+        rows.extend(rows_of(rng, entry, &written));
     }
     Text::of(rng, &rows)
 }
 
-fn sample(rng: &mut Rng, kind: u8, bytes: &[u8]) -> String {
-    let bits = number(bytes);
+/// The samples of a channel as numbers.
+fn written(rng: &mut Rng, entry: &Entry, place: usize) -> Written {
+    let kind = entry.channels[place].kind;
+    let samples = (0..entry.n()).map(|index| sample(rng, kind, held(&entry.body, entry.sample(index, place))));
+    (["counts", "shares"][usize::from(kind)], samples.collect())
+}
+
+fn sample(rng: &mut Rng, kind: u8, bits: u64) -> String {
     if kind == 1 {
         in_decimals(rng, f64::from_bits(bits))
     } else {
@@ -130,20 +145,39 @@ fn codes_of(words: &[String]) -> Vec<u64> {
     codes
 }
 
-/// Terms of words; each counts its words anew.
+/// Terms with channels of words, beside counts; each channel counts its words anew.
 pub fn words(rng: &mut Rng, _: usize, peers: &mut Peers) -> Outcome {
-    let mut entries = Vec::new();
-    let mut rows = Vec::new();
+    let (mut entries, mut rows): (Vec<Entry>, Vec<Row>) = (Vec::new(), Vec::new());
     for term in 0..1 + rng.below(4) as u16 {
-        let (n, numbered) = (length(rng), rng.chance(20));
-        let words: Vec<String> = (0..n).map(|_| word(rng, numbered)).collect();
-        let body = body(&days(rng, n), codes_of(&words).into_iter());
-        let entry = Entry { kernel: 2, kind: 0, body, ..Entry::sound(rng, term, n) };
-        rows.extend(rows_of(rng, &entry, "words", &words));
+        let (n, count) = (length(rng), 1 + rng.below(MOST_CHANNELS));
+        let mut measured: Vec<(Channel, Written, Vec<u64>)> = (1..count).map(|_| words_or_counts(rng, n)).collect();
+        measured.insert(rng.below(count), of_words(rng, n));
+        let bits: Vec<Vec<u64>> = measured.iter().map(|(_, _, bits)| bits.clone()).collect();
+        let written: Vec<Written> = measured.iter().map(|(_, written, _)| written.clone()).collect();
+        let channels = measured.iter().map(|(channel, _, _)| *channel).collect();
+        let most = 1 + rng.below(n.min(12)) as u16;
+        let entry = Entry { term, channels, most, body: body(&days(rng, n), &bits) };
+        rows.extend(rows_of(rng, &entry, &written));
         entries.push(entry);
     }
     let text = Text::of(rng, &rows);
     pack_into(peers, &text, &file_of(&entries))
+}
+
+fn of_words(rng: &mut Rng, n: usize) -> (Channel, Written, Vec<u64>) {
+    let numbered = rng.chance(20);
+    let words: Vec<String> = (0..n).map(|_| word(rng, numbered)).collect();
+    let codes = codes_of(&words);
+    (Channel { kernel: SPELLING, kind: 0 }, ("words", words), codes)
+}
+
+fn words_or_counts(rng: &mut Rng, n: usize) -> (Channel, Written, Vec<u64>) {
+    if rng.chance(50) {
+        return of_words(rng, n);
+    }
+    let counts: Vec<i64> = (0..n).map(|_| rng.between(-LIMIT, LIMIT)).collect();
+    let written = counts.iter().map(|&count| in_digits(rng, count)).collect();
+    (Channel { kernel: rng.pick(&KERNELS), kind: 0 }, ("counts", written), counts.iter().map(|&x| x as u64).collect())
 }
 
 /// So many parts are made of each 1/65,536.
@@ -166,15 +200,22 @@ fn in_range(parts: i64) -> bool {
     nearest(parts).abs() <= LIMIT
 }
 
-/// Shares between multiples of 1/65,536; what is out of range when it is rounded is a fault of its line.
-pub fn rounded(rng: &mut Rng, _: usize, peers: &mut Peers) -> Outcome {
+/// Shares between multiples of 1/65,536, alone or behind a channel of zeros; what is out of range when it is rounded
+/// is a fault of its line.
+pub fn rounded(rng: &mut Rng, index: usize, peers: &mut Peers) -> Outcome {
     let (n, far) = (length(rng).min(60), rng.chance(20));
     let parts: Vec<i64> = (0..n).map(|_| parts(rng)).filter(|&parts| far || in_range(parts)).chain([0]).collect();
-    let body = body(&days(rng, parts.len()), parts.iter().map(|&parts| bits(nearest(parts), 1)));
-    let entry = Entry { kind: 1, body, ..Entry::sound(rng, 5, parts.len()) };
     let shares = parts.iter().map(|&parts| parts as f64 / (PARTS * 65_536) as f64);
-    let samples: Vec<String> = shares.map(|share| in_decimals(rng, share)).collect();
-    let rows = rows_of(rng, &entry, "rounded-shares", &samples);
+    let mut written = vec![("rounded-shares", shares.map(|share| in_decimals(rng, share)).collect())];
+    let mut channels = vec![Channel { kind: 1, ..channel(rng) }];
+    let mut samples: Vec<Vec<u64>> = vec![parts.iter().map(|&parts| bits(nearest(parts), 1)).collect()];
+    if index % 3 == 0 {
+        written.insert(0, ("counts", vec!["0".to_string(); parts.len()]));
+        channels.insert(0, Channel { kind: 0, ..channel(rng) });
+        samples.insert(0, vec![0; parts.len()]);
+    }
+    let entry = Entry { term: 5, channels, most: 1, body: body(&days(rng, parts.len()), &samples) };
+    let rows = rows_of(rng, &entry, &written);
     let text = Text::of(rng, &rows);
     let lines = text.numbers[1..].iter().zip(&parts);
     let faulty: Vec<usize> = lines.filter(|(_, &parts)| !in_range(parts)).map(|(&line, _)| line).collect();
@@ -215,7 +256,7 @@ fn damage_line(rng: &mut Rng, text: &mut Vec<u8>, damage: fn(&mut Vec<&[u8]>, us
 /// Terms of few observations, none more than segments: damage meets their term lines, and one line less is a fault.
 fn tight(rng: &mut Rng) -> Vec<Entry> {
     let mut entries = drawn(rng, |rng| 1 + rng.below(4));
-    entries.iter_mut().for_each(|entry| entry.most = (entry.body.len() / OBSERVATION) as u16);
+    entries.iter_mut().for_each(|entry| entry.most = entry.n() as u16);
     entries
 }
 

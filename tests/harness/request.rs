@@ -1,7 +1,7 @@
 //! A call of one of the C functions: its arguments, its bytes for the driver, and what is expected of it.
 
+use crate::records::Lent;
 use second::calls;
-use second::record::Asked;
 
 /// The C functions by the driver's numbers; `Idle` runs a thread that calls none.
 #[derive(Clone, Copy, Debug, PartialEq, Eq)]
@@ -11,28 +11,35 @@ pub enum Call {
     ReadCuts = 2,
     ReadFile = 3,
     WriteFile = 4,
+    Summarize = 5,
 }
+
+/// All of them.
+pub const CALLS: [Call; 5] = [Call::Solve, Call::ReadCuts, Call::ReadFile, Call::WriteFile, Call::Summarize];
 
 impl Call {
     pub fn name(self) -> &'static str {
-        ["idle", "solve", "read_cuts", "read_file", "write_file"][self as usize]
+        ["idle", "solve", "read_cuts", "read_file", "write_file", "summarize"][self as usize]
     }
 
     fn number_names(self) -> &'static [&'static str] {
         match self {
-            Call::Solve => &["kind", "kernel", "dmax"],
+            Call::Solve => &["dmax"],
             Call::ReadCuts => &["n", "d", "kernel"],
-            _ => &[],
+            Call::WriteFile => &["form"],
+            Call::Summarize => &["first", "length"],
+            Call::Idle | Call::ReadFile => &[],
         }
     }
 
     pub fn slice_names(self) -> &'static [&'static str] {
         match self {
             Call::Idle => &[],
-            Call::Solve => &["body", "costs", "starts"],
+            Call::Solve => &["body", "channels", "costs", "starts"],
             Call::ReadCuts => &["starts", "out"],
             Call::ReadFile => &["file"],
             Call::WriteFile => &["entries", "bodies", "out"],
+            Call::Summarize => &["body", "channels", "out"],
         }
     }
 }
@@ -81,9 +88,8 @@ impl Request {
         Request { call: Call::Idle, numbers: [0; 3], slices: Vec::new() }
     }
 
-    pub fn solve(body: Vec<u8>, asked: Asked, costs: Vec<u8>, starts: Vec<u8>) -> Request {
-        let numbers = [asked.kind, asked.kernel, asked.most];
-        Request { call: Call::Solve, numbers, slices: vec![body, costs, starts] }
+    pub fn solve(record: Lent, most: u64, costs: Vec<u8>, starts: Vec<u8>) -> Request {
+        Request { call: Call::Solve, numbers: [most, 0, 0], slices: vec![record.body, record.channels, costs, starts] }
     }
 
     pub fn read_cuts(starts: Vec<u8>, n: u64, count: u64, kernel: u64, out: Vec<u8>) -> Request {
@@ -94,8 +100,12 @@ impl Request {
         Request { call: Call::ReadFile, numbers: [0; 3], slices: vec![file] }
     }
 
-    pub fn write_file(entries: Vec<u8>, bodies: Vec<u8>, out: Vec<u8>) -> Request {
-        Request { call: Call::WriteFile, numbers: [0; 3], slices: vec![entries, bodies, out] }
+    pub fn write_file(form: u64, entries: Vec<u8>, bodies: Vec<u8>, out: Vec<u8>) -> Request {
+        Request { call: Call::WriteFile, numbers: [form, 0, 0], slices: vec![entries, bodies, out] }
+    }
+
+    pub fn summarize(record: Lent, first: u64, length: u64, out: Vec<u8>) -> Request {
+        Request { call: Call::Summarize, numbers: [first, length, 0], slices: vec![record.body, record.channels, out] }
     }
 
     /// What the second program says of this call.
@@ -103,12 +113,11 @@ impl Request {
         let mut slices = self.slices.clone();
         let [first, second, third] = self.numbers;
         let reply = match (self.call, &mut slices[..]) {
-            (Call::Solve, [body, costs, starts]) => {
-                calls::solve(body, Asked { kind: first, kernel: second, most: third }, costs, starts)
-            }
+            (Call::Solve, [body, channels, costs, starts]) => calls::solve(body, channels, first, costs, starts),
             (Call::ReadCuts, [starts, out]) => calls::read_cuts(starts, first, second, third, out),
             (Call::ReadFile, [file]) => calls::read_file(file),
-            (Call::WriteFile, [entries, bodies, out]) => calls::write_file(entries, bodies, out),
+            (Call::WriteFile, [entries, bodies, out]) => calls::write_file(first, entries, bodies, out),
+            (Call::Summarize, [body, channels, out]) => calls::summarize(body, channels, first, second, out),
             _ => 0,
         };
         Left { reply, slices }

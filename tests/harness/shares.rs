@@ -1,10 +1,10 @@
 //! Shares of every kind: at the edges of range and wholeness, and drawn over all bits.
 
 use crate::peers::{Outcome, Peers};
-use crate::records::{body, days};
+use crate::records::{body, days, list, Lent, KERNELS};
 use crate::request::Request;
 use crate::rng::Rng;
-use second::record::Asked;
+use second::record::{Channel, MOST_CHANNELS};
 
 /// Shares at an edge, by their bits without the sign.
 const EDGES: [u64; 24] = [
@@ -34,7 +34,7 @@ const EDGES: [u64; 24] = [
     0x7fff_ffff_ffff_ffff, // a quiet NaN, all bits set
 ];
 
-/// Every edge with both signs, alone and in every place of three.
+/// Every edge with both signs, alone and in every place of three, as the sample of each of four channels in turn.
 pub const AT_EDGES: usize = EDGES.len() * 2 * 4;
 
 pub fn at_edges(rng: &mut Rng, index: usize, peers: &mut Peers) -> Outcome {
@@ -45,14 +45,20 @@ pub fn at_edges(rng: &mut Rng, index: usize, peers: &mut Peers) -> Outcome {
         shares = vec![0x3fe0_0000_0000_0000, 0xbff0_0000_0000_0000, 0x4000_0000_0000_0000];
         shares[place] = share;
     }
-    solve_shares(rng, peers, &shares)
+    for before in 0..MOST_CHANNELS {
+        let mut channels: Vec<Vec<u64>> = vec![vec![1.0f64.to_bits(); shares.len()]; before];
+        channels.push(shares.clone());
+        solve_shares(rng, peers, &channels)?;
+    }
+    Ok(())
 }
 
 /// Shares drawn so that whole, fractional and far ones are all common.
 pub fn drawn(rng: &mut Rng, _: usize, peers: &mut Peers) -> Outcome {
     let n = 1 + rng.below(6);
-    let shares: Vec<u64> = (0..n).map(|_| draw(rng)).collect();
-    solve_shares(rng, peers, &shares)
+    let count = rng.pick(&[1, 1, 1, 2, 3, MOST_CHANNELS]);
+    let channels: Vec<Vec<u64>> = (0..count).map(|_| (0..n).map(|_| draw(rng)).collect()).collect();
+    solve_shares(rng, peers, &channels)
 }
 
 fn draw(rng: &mut Rng) -> u64 {
@@ -66,11 +72,12 @@ fn draw(rng: &mut Rng) -> u64 {
     sign | exponent << 52 | fraction
 }
 
-fn solve_shares(rng: &mut Rng, peers: &mut Peers, shares: &[u64]) -> Outcome {
-    let n = shares.len();
-    let asked = Asked { kind: 1, kernel: 1 + rng.below(3) as u64, most: n.min(2) as u64 };
-    let entries = asked.most as usize * (n + 1);
-    let lent = body(&days(rng, n), shares.iter().copied());
-    let request = Request::solve(lent, asked, rng.bytes(8 * entries), rng.bytes(2 * entries));
-    peers.call(&request).map(|_| ())
+/// Solves a record whose channels all hold shares.
+fn solve_shares(rng: &mut Rng, peers: &mut Peers, shares: &[Vec<u64>]) -> Outcome {
+    let n = shares[0].len();
+    let most = n.min(2);
+    let entries = most * (n + 1);
+    let channels: Vec<Channel> = shares.iter().map(|_| Channel { kernel: rng.pick(&KERNELS), kind: 1 }).collect();
+    let lent = Lent { body: body(&days(rng, n), shares), channels: list(&channels) };
+    peers.call(&Request::solve(lent, most as u64, rng.bytes(8 * entries), rng.bytes(2 * entries))).map(|_| ())
 }

@@ -3,14 +3,11 @@
 use crate::met::{Codes, Met, CODES, TEXT};
 use crate::options::Options;
 use crate::plan::Plan;
-use crate::request::Call;
+use crate::request::CALLS;
 use crate::workers::{Failure, Found};
 
 /// How many failures are printed in full.
 const SHOWN: usize = 12;
-
-/// The most stack that a solve may use, in bytes.
-const SOLVE_STACK: u32 = 12 * 1024;
 
 /// Prints the summary; returns how many cases failed.
 pub fn print(plan: &Plan, options: &Options, found: &Found) -> usize {
@@ -41,15 +38,14 @@ fn print_families(plan: &Plan) {
 
 fn print_met(met: &Met) {
     let total: u64 = met.calls[1..].iter().sum();
-    let calls = [Call::Solve, Call::ReadCuts, Call::ReadFile, Call::WriteFile];
-    let each: Vec<String> = calls.iter().map(|&call| format!("{} {}", call.name(), met.calls[call as usize])).collect();
+    let each: Vec<String> = CALLS.iter().map(|&call| format!("{} {}", call.name(), met.calls[call as usize])).collect();
     println!("calls compared: {} ({}); files given to cuts: {}", total, each.join(", "), met.files);
-    for name in calls.iter().map(|call| call.name()).chain([TEXT]) {
+    for name in CALLS.iter().map(|call| call.name()).chain([TEXT]) {
         println!("{}, codes met on purpose: {}", name, in_words(name, &met.on_purpose));
         println!("{}, codes met by chance: {}", name, in_words(name, &met.by_chance));
     }
     let stacks: Vec<String> =
-        calls.iter().map(|&call| format!("{} {}", call.name(), met.stack[call as usize])).collect();
+        CALLS.iter().map(|&call| format!("{} {}", call.name(), met.stack[call as usize])).collect();
     println!("stack bytes used at most: {}", stacks.join(", "));
 }
 
@@ -76,11 +72,10 @@ fn print_failures(plan: &Plan, options: &Options, failures: &[Failure]) -> usize
 /// How many things a whole run must meet.
 fn demands() -> usize {
     let codes: usize = CODES.iter().map(|(_, codes)| codes.len()).sum();
-    2 * codes + 1
+    2 * codes
 }
 
-/// What a whole run must meet and does not: every code of every call on purpose and by chance, and a bound on
-/// solve's stack.
+/// What a whole run must meet and does not: every code of every call on purpose and by chance.
 fn lacking(met: &Met) -> Vec<String> {
     let mut lacks: Vec<String> = Vec::new();
     for (call, codes) in CODES {
@@ -91,9 +86,6 @@ fn lacking(met: &Met) -> Vec<String> {
                 }
             }
         }
-    }
-    if met.stack[Call::Solve as usize] > SOLVE_STACK {
-        lacks.push(format!("solve uses {} bytes of stack", met.stack[Call::Solve as usize]));
     }
     lacks
 }

@@ -3,7 +3,7 @@
 
 /// The codes whose place counts observations, and those whose place counts entries.
 const AT_INDEX: [u64; 4] = [8, 9, 10, 11];
-const AT_ENTRY: [u64; 4] = [22, 23, 24, 28];
+const AT_ENTRY: [u64; 5] = [22, 23, 24, 28, 29];
 
 /// A refusal that stands in a text.
 pub struct Refusal<'a> {

@@ -4,10 +4,12 @@ use crate::calendar::{date_of, DATED};
 use crate::files::Entry;
 use crate::rng::Rng;
 use second::number::number;
-use second::record::OBSERVATION;
 
 /// The fields of a line.
-type Row = Vec<String>;
+pub type Row = Vec<String>;
+
+/// What the samples of a channel are called, and how each of them is written.
+pub type Written = (&'static str, Vec<String>);
 
 /// A text in the making.
 #[derive(Default)]
@@ -122,28 +124,44 @@ impl Text {
     }
 }
 
-/// The rows of a term: what its line says, with its samples named so, and a row for each observation.
-pub fn rows_of(rng: &mut Rng, entry: &Entry, named: &str, samples: &[String]) -> Vec<Row> {
-    let days = entry.body.chunks(OBSERVATION).map(|observation| number(&observation[..4]) as u32);
-    let mut rows = vec![term_row(rng, entry, named)];
-    rows.extend(days.zip(samples).map(|(day, sample)| vec![in_days(rng, day), sample.clone()]));
+/// The rows of a term: what its line says, and a row for each observation with the samples as they are written for
+/// each channel.
+pub fn rows_of(rng: &mut Rng, entry: &Entry, written: &[Written]) -> Vec<Row> {
+    let days = entry.body.chunks(entry.width()).map(|observation| number(&observation[..4]) as u32);
+    let mut rows = vec![term_row(rng, entry, written)];
+    for (index, day) in days.enumerate() {
+        let samples = written.iter().map(|(_, samples)| samples[index].clone());
+        rows.push([in_days(rng, day)].into_iter().chain(samples).collect());
+    }
     rows
 }
 
-/// The term first, then the other pairs in any order; counts need not be named.
-fn term_row(rng: &mut Rng, entry: &Entry, named: &str) -> Row {
-    let names = ["linear", "spelling", "energy"].map(String::from);
-    let by_number = in_digits(rng, i64::from(entry.kernel));
-    let kernel = if rng.chance(50) { by_number } else { names[usize::from(entry.kernel) - 1].clone() };
-    let mut pairs = vec![("kernel", kernel), ("dmax", in_digits(rng, i64::from(entry.most)))];
-    if named != "counts" || rng.chance(50) {
-        pairs.push(("samples", named.to_string()));
-    }
-    for last in (1..pairs.len()).rev() {
-        pairs.swap(last, rng.below(last + 1));
+/// A key and its value.
+type Pair = (&'static str, String);
+
+/// The term first, then the other pairs: of one channel in any order, of several with what is said of a channel's
+/// samples behind its kernel.
+fn term_row(rng: &mut Rng, entry: &Entry, written: &[Written]) -> Row {
+    let said = entry.channels.iter().zip(written);
+    let mut pairs: Vec<Pair> = said.flat_map(|(channel, (named, _))| pairs_of(rng, channel.kernel, named)).collect();
+    let dmax = in_digits(rng, i64::from(entry.most));
+    pairs.insert(rng.below(pairs.len() + 1), ("dmax", dmax));
+    if entry.channels.len() == 1 {
+        for last in (1..pairs.len()).rev() {
+            pairs.swap(last, rng.below(last + 1));
+        }
     }
     pairs.insert(0, ("term", in_digits(rng, i64::from(entry.term))));
     pairs.into_iter().flat_map(|(key, value)| [key.to_string(), value]).collect()
+}
+
+/// The kernel of a channel, and what its samples are; counts need not be named.
+fn pairs_of(rng: &mut Rng, kernel: u8, named: &str) -> Vec<Pair> {
+    let names = ["linear", "spelling", "energy"].map(String::from);
+    let by_number = in_digits(rng, i64::from(kernel));
+    let kernel = if rng.chance(50) { by_number } else { names[usize::from(kernel) - 1].clone() };
+    let samples = (named != "counts" || rng.chance(50)).then(|| ("samples", named.to_string()));
+    [("kernel", kernel)].into_iter().chain(samples).collect()
 }
 
 /// A day as a number or, if it has one, as its date.

@@ -103,3 +103,67 @@ pub fn wild(rng: &mut Rng, _: usize, peers: &mut Peers) -> Outcome {
     }
     peers.call(&table.request(rng)).map(|_| ())
 }
+
+/// A reading of cuts in the making: a table that holds a walk, and what is asked.
+struct Draft {
+    n: u64,
+    count: u64,
+    kernel: u64,
+    starts: Vec<u8>,
+    out: usize,
+}
+
+/// Damage that is meant for a code.
+type Fault = (u64, fn(&mut Rng, &mut Draft));
+
+/// In the order in which they are tried.
+const FAULTS: [Fault; 8] = [
+    (1, |_, draft| draft.n = 0),
+    (2, |rng, draft| draft.n = rng.pick(&[401, 402, 65_536 + 5, 1 << 32 | 5, u64::MAX])),
+    (4, |rng, draft| draft.count = rng.pick(&[0, 13, 256 + 1, 1 << 32 | 1, u64::MAX])),
+    (5, |_, draft| draft.count = draft.n + 1),
+    (6, |rng, draft| draft.kernel = rng.pick(&[0, 4, 256 + 1, 1 << 32 | 1, u64::MAX])),
+    (7, |rng, draft| {
+        let needed = 2 * draft.count.min(12) as usize * (draft.n.min(400) as usize + 1);
+        draft.starts.truncate(needed - 1 - rng.below(3));
+    }),
+    (7, |rng, draft| draft.out = rng.pick(&[0, 2, 22, 23])),
+    (13, |_, draft| {
+        let last = 2 * (draft.count * (draft.n + 1) - 1) as usize;
+        draft.starts[last..].copy_from_slice(&(draft.n as u16).to_le_bytes());
+    }),
+];
+
+impl Draft {
+    /// A walk of few observations, so that more segments than those are not more than 12.
+    fn sound(rng: &mut Rng) -> Draft {
+        let n = 2 + rng.below(10);
+        let count = 1 + rng.below(n);
+        let mut table = Table::of_noise(rng, n, count);
+        table.lay_walk(rng, count, n);
+        let starts = table.entries.iter().flat_map(|entry| entry.to_le_bytes()).collect();
+        let kernel = 1 + rng.below(3) as u64;
+        Draft { n: n as u64, count: count as u64, kernel, starts, out: STARTS_OUT }
+    }
+
+    fn read_for(&self, rng: &mut Rng, peers: &mut Peers, code: u64) -> Outcome {
+        let out = rng.bytes(self.out);
+        let request = Request::read_cuts(self.starts.clone(), self.n, self.count, self.kernel, out);
+        peers.call_at(code, 0, 0, &request)
+    }
+}
+
+/// How many cases try every two refusals together.
+pub const TOGETHER: usize = FAULTS.len() * FAULTS.len() * 4;
+
+/// The fault that is tried later is there first, and is told; with the other the other is.
+pub fn together(rng: &mut Rng, index: usize, peers: &mut Peers) -> Outcome {
+    let (one, other) = (index % FAULTS.len(), index / FAULTS.len() % FAULTS.len());
+    let mut draft = Draft::sound(rng);
+    for which in [one.max(other), one.min(other)] {
+        let (code, fault) = FAULTS[which];
+        fault(rng, &mut draft);
+        draft.read_for(rng, peers, code)?;
+    }
+    Ok(())
+}

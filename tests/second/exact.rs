@@ -1,4 +1,4 @@
-//! Samples as whole numbers x, judged exactly: a share is decoded into an integer fraction.
+//! Shares and means worked in whole numbers: a share is decoded into a fraction, a mean is rounded from one.
 
 /// The largest magnitude of a whole x.
 const LIMIT: u128 = 1_000_000;
@@ -11,7 +11,7 @@ struct Scaled {
 }
 
 /// The whole x of a sample's 8 bytes, or the code that refuses it.
-pub fn sample(kind: u64, bits: u64) -> Result<i64, u64> {
+pub fn sample(kind: u8, bits: u64) -> Result<i64, u64> {
     if kind == 0 {
         count(bits as i64)
     } else {
@@ -59,4 +59,20 @@ fn scaled(bits: u64) -> Option<Scaled> {
         numerator: u128::from(mantissa) << power.max(0),
         denominator: 1 << (-power).max(0),
     })
+}
+
+/// The bits of the double that is nearest to the sum over the length, the even one of two as near.
+///
+/// The quotient is scaled by the power of 2 that leaves it 53 binary digits, the first of which is not stored.
+pub fn mean(sum: i64, length: u64) -> u64 {
+    if sum == 0 {
+        return 0;
+    }
+    let (sum_size, length) = (u128::from(sum.unsigned_abs()), u128::from(length));
+    let wide = |power: &u64| (sum_size << power) / length >= 1 << 52;
+    let power = (0..64).find(wide).expect("a mean is no smaller than 2^-11");
+    let (quotient, rest) = ((sum_size << power) / length, (sum_size << power) % length);
+    let up = 2 * rest > length || 2 * rest == length && quotient % 2 == 1;
+    let digits = quotient as u64 + u64::from(up) - (1 << 52);
+    u64::from(sum < 0) << 63 | ((1023 + 52 - power) << 52) + digits
 }

@@ -1,7 +1,9 @@
 //! Segment costs from the kernel's definition: A and B from sums over the Gram matrix.
 
+use crate::record::Channel;
+
 /// k(x, y) for kernel 1 (linear), 2 (spelling) and 3 (energy).
-fn kernel(which: u64, x: i64, y: i64) -> i128 {
+fn kernel(which: u8, x: i64, y: i64) -> i128 {
     let (x, y) = (i128::from(x), i128::from(y));
     match which {
         1 => x * y,
@@ -11,6 +13,12 @@ fn kernel(which: u64, x: i64, y: i64) -> i128 {
     }
 }
 
+/// The kernel of two observations: the sum over the channels of their kernels.
+fn kernel_of_days(channels: &[Channel], one: &[i64], other: &[i64]) -> i128 {
+    let pairs = one.iter().zip(other);
+    channels.iter().zip(pairs).map(|(channel, (&x, &y))| kernel(channel.kernel, x, y)).sum()
+}
+
 /// The cost in units of every segment of a record.
 pub struct SegmentCosts {
     width: usize,
@@ -18,8 +26,9 @@ pub struct SegmentCosts {
 }
 
 impl SegmentCosts {
-    pub fn new(which: u64, samples: &[i64]) -> SegmentCosts {
-        let gram = Gram::new(which, samples);
+    /// The costs for the samples of each observation, one a channel.
+    pub fn new(channels: &[Channel], samples: &[Vec<i64>]) -> SegmentCosts {
+        let gram = Gram::new(channels, samples);
         let width = samples.len() + 1;
         let mut units = vec![0; width * width];
         for start in 0..width {
@@ -45,15 +54,15 @@ struct Gram {
 }
 
 impl Gram {
-    fn new(which: u64, samples: &[i64]) -> Gram {
+    fn new(channels: &[Channel], samples: &[Vec<i64>]) -> Gram {
         let width = samples.len() + 1;
         let mut corner = vec![0; width * width];
         let mut diagonal = vec![0; width];
-        for (i, &x) in samples.iter().enumerate() {
-            diagonal[i + 1] = diagonal[i] + kernel(which, x, x);
+        for (i, one) in samples.iter().enumerate() {
+            diagonal[i + 1] = diagonal[i] + kernel_of_days(channels, one, one);
             let mut row = 0;
-            for (j, &y) in samples.iter().enumerate() {
-                row += kernel(which, x, y);
+            for (j, other) in samples.iter().enumerate() {
+                row += kernel_of_days(channels, one, other);
                 corner[(i + 1) * width + j + 1] = corner[i * width + j + 1] + row;
             }
         }

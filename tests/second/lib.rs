@@ -1,8 +1,8 @@
 //! The second program: the segmenter's rules written once more from the rules alone, by other
 //! methods than the product's, so that the two can be compared call by call and byte by byte.
 //!
-//! Segment costs come from the kernel itself (A and B over a Gram matrix), least costs from trying
-//! every cutting or from growing cuttings forward, shares from exact fractions.
+//! Segment costs come from the kernel itself (A and B over a Gram matrix of all channels), least costs from
+//! trying every cutting or from growing cuttings forward, shares and means from exact fractions.
 
 pub mod calls;
 pub mod cuttings;

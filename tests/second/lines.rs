@@ -3,7 +3,7 @@
 use crate::cuttings::{choices, Choices};
 use crate::file::{self, Entry};
 use crate::gram::SegmentCosts;
-use crate::record::{judge, Asked, Record};
+use crate::record::{judge, judge_counts, judge_kernels, Record};
 
 /// The whole text for a file.
 pub fn text(contents: &[u8]) -> String {
@@ -15,16 +15,16 @@ pub fn text(contents: &[u8]) -> String {
 
 /// The lines of one term.
 fn of_term(entry: &Entry) -> String {
-    let asked = Asked { kind: entry.kind, kernel: entry.kernel, most: entry.most };
-    match judge(&entry.body, asked, u64::MAX) {
-        Ok(record) => format!("term {} code 0 place 0\n{}", entry.term, of_record(&record, asked)),
+    let numbers = |n: u64| judge_counts(n, entry.most).and_then(|()| judge_kernels(&entry.channels));
+    match judge(&entry.body, &entry.channels, numbers) {
+        Ok(record) => format!("term {} code 0 place 0\n{}", entry.term, of_record(&record, entry)),
         Err(refusal) => format!("term {} code {} place {}\n", entry.term, refusal.code, refusal.place),
     }
 }
 
-fn of_record(record: &Record, asked: Asked) -> String {
-    let segments = SegmentCosts::new(asked.kernel, &record.samples);
-    let most = asked.most as usize;
+fn of_record(record: &Record, entry: &Entry) -> String {
+    let segments = SegmentCosts::new(&entry.channels, &record.samples);
+    let most = entry.most as usize;
     let chosen = choices(record.samples.len(), most, &segments);
     (1..=most).map(|count| of_count(record, &chosen, count)).collect()
 }

@@ -38,18 +38,18 @@ module _ (asked : Asked) (body : List ℕ) (costs starts : ℕ) where
       (told (given_tries asked body costs starts) given_coded)
 
   -- "A refusal is given only where its stated reason holds; where none does, the reply is 0." "For a record: 3, then 1, 2, 4, 5, 6, 7, then 8 over all
-  -- indices, then samples by index, where one sample is tried for 9, 10, 11." "place is the later index", "place is its index", and "0 unless stated".
+  -- indices, then samples by index, where one sample is tried for 9, 10, 11.", 29 and 24 before them. "place is the later index", "place is its index", and "0 unless stated".
   pub solve_answered :
-      Answered solve_codes (PlacedOnly index_codes (observations body) most_observations) (given_tries asked body costs starts)
+      Answered solve_codes (PlacedOnly index_codes (observations asked.channels body) most_observations) (given_tries asked body costs starts)
       (solve_reply asked body costs starts)
   unfolding among
   solve_answered =
       let within : Within solve_codes (given_tries asked body costs starts) = search depth 20 in
-      let places : Every (PlacedOnly index_codes (observations body) most_observations) (given_tries asked body costs starts) = (
+      let places : Every (PlacedOnly index_codes (observations asked.channels body) most_observations) (given_tries asked body costs starts) = (
         search placed depth 20,
-        λ shape. let few : observations body ≤ most_observations = shape.1.0.0.1 in search placed depth 20,
+        λ shape. let few : observations asked.channels body ≤ most_observations = shape.1.0.0.1 in search placed depth 20,
       ) in
-      rw given_all (answered solve_codes (PlacedOnly index_codes (observations body) most_observations) (given_tries asked body costs starts) given_coded within (inl refl, refl) places)
+      rw given_all (answered solve_codes (PlacedOnly index_codes (observations asked.channels body) most_observations) (given_tries asked body costs starts) given_coded within (inl refl, refl) places)
 
   -- It is 0 exactly for a record that is `Accepted`.
   pub solve_accepted : ((solve_reply asked body costs starts).code ≡ 0) ↔ Accepted asked body costs starts
@@ -57,7 +57,7 @@ module _ (asked : Asked) (body : List ℕ) (costs starts : ℕ) where
 
   -- 12: its reason never holds where all else is fit, and it is never given.
   pub never_exceeds : Accepted asked body costs starts → exceeds asked body ≡ false
-  never_exceeds a = limit.never_exceeds asked body a.fit.count.few_days (accept.all_whole a)
+  never_exceeds a = limit.never_exceeds asked body (accept.few_channels a) a.fit.count.few_days (accept.all_whole a)
 
   pub never_12 : (solve_reply asked body costs starts).code ≡ 12 → ⊥
   unfolding among

@@ -7,9 +7,9 @@ use Rattle.record.specs.Cost.{least_of}
 abbrev pub most_total : ℕ
 most_total = 9223372036854775807
 
--- so many observations have no total past it
+-- so many observations have no total past it, of four channels
 abbrev pub most_totalled : ℕ
-most_totalled = 2251
+most_totalled = 562
 
 -- P holds at an index below n
 unfoldable pub some : (ℕ → Bool) → ℕ → Bool
@@ -19,4 +19,4 @@ some P (suc n) = P n || some P n
 -- the least cost of the first t observations in k + 1 segments passes it, for some t that has as many and some k below Dmax
 abbrev pub exceeds : Asked → List ℕ → Bool
 exceeds asked body =
-    some (λ k. some (λ t. leb (suc k) t && ltb most_total (least_of asked body (suc k) t)) (observations body + 1)) asked.dmax
+    some (λ k. some (λ t. leb (suc k) t && ltb most_total (least_of asked body (suc k) t)) (observations asked.channels body + 1)) asked.dmax

@@ -11,11 +11,11 @@ use Rattle.reply.proofs.Exactly.{from_next}
 use Rattle.file.specs.declared.layout.Entry.{Entry}
 use Rattle.file.specs.declared.layout.Widths.{Widths}
 use Rattle.file.specs.declared.contents.Contents.{Contents}
-use Rattle.file.specs.Layout.{width_of, encode, Fits, size_of}
+use Rattle.file.specs.Layout.{widths_of, width_of, encode, Holds, Fits, size_of}
 use Rattle.file.specs.Contents.{place_in, entry_in, entries_from, due_in, offset_in}
 use Rattle.file.specs.Items.{Bytes, Item, no_item, entries_of, contents, bodies, paired}
-use Rattle.file.specs.Sound.{Known, Rising, Good}
-use Rattle.file.proofs.Codec.{Holds, length_encode, entry_past, entry_here, offset_here, join, encode_back}
+use Rattle.file.specs.Sound.{InOrder, Rising, Good}
+use Rattle.file.proofs.Codec.{length_encode, entry_past, entry_here, offset_here, join, encode_back}
 
 -- ---- entries and their bodies
 
@@ -39,38 +39,35 @@ unfolding paired bodies total
 paired_bodies [] run = refl
 paired_bodies (e ∷ es) run = ap (λ (l : List ℕ). take (size_of e) run ++ l) (paired_bodies es (drop (size_of e) run)) ∙ sym (take-add (size_of e) (total es) run)
 
-pub paired_good : (es : List Entry) (run : List ℕ) → total es ≤ length run → All Fits es → All Known es → All Good (paired es run)
+pub paired_good :
+    (form : ℕ) (es : List Entry) (run : List ℕ) → total es ≤ length run → All (Fits (widths_of form)) es → All InOrder es →
+    All (Good form) (paired es run)
 unfolding paired total
-paired_good [] run l F K = tt
-paired_good (e ∷ es) run l F K = (
-  record { fits = F.0; known = K.0; body = length-take-le (size_of e) run (omega arith) },
-  paired_good es (drop (size_of e) run) (simp length-drop (omega arith)) F.1 K.1,
+paired_good form [] run l F K = tt
+paired_good form (e ∷ es) run l F K = (
+  record { fits = F.0; channels = K.0; body = length-take-le (size_of e) run (omega arith) },
+  paired_good form es (drop (size_of e) run) (simp length-drop (omega arith)) F.1 K.1,
 )
 
-pub paired_back : (xs : List Item) → All Good xs → paired (entries_of xs) (bodies xs) ≡ xs
+pub paired_back : (form : ℕ) (xs : List Item) → All (Good form) xs → paired (entries_of xs) (bodies xs) ≡ xs
 unfolding paired bodies entries_of
-paired_back [] G = refl
-paired_back (x ∷ xs) G =
+paired_back form [] G = refl
+paired_back form (x ∷ xs) G =
     let body : take (size_of x.entry) (x.body ++ bodies xs) ≡ x.body = take_at x.body (bodies xs) _ G.0.body in
     let rest : paired (entries_of xs) (drop (size_of x.entry) (x.body ++ bodies xs)) ≡ xs =
-    ap (paired (entries_of xs)) (drop_at x.body (bodies xs) _ G.0.body) ∙ paired_back xs G.1 in
+    ap (paired (entries_of xs)) (drop_at x.body (bodies xs) _ G.0.body) ∙ paired_back form xs G.1 in
     λ j. record { entry = x.entry; body = body j } ∷ rest j
 
-pub bodies_total : (xs : List Item) → All Good xs → length (bodies xs) ≡ total (entries_of xs)
+pub bodies_total : (form : ℕ) (xs : List Item) → All (Good form) xs → length (bodies xs) ≡ total (entries_of xs)
 unfolding bodies entries_of total
-bodies_total [] G = refl
-bodies_total (x ∷ xs) G = length-append x.body (bodies xs) ∙ omega (arith, G.0.body, bodies_total xs G.1)
+bodies_total form [] G = refl
+bodies_total form (x ∷ xs) G = length-append x.body (bodies xs) ∙ omega (arith, G.0.body, bodies_total form xs G.1)
 
 -- what holds of good items holds of their entries
-pub good_fits : (xs : List Item) → All Good xs → All Fits (entries_of xs)
+pub good_entries : (form : ℕ) (P : Entry → Type 0) → ((x : Item) → Good form x → P x.entry) → (xs : List Item) → All (Good form) xs → All P (entries_of xs)
 unfolding entries_of
-good_fits [] G = tt
-good_fits (x ∷ xs) G = (G.0.fits, good_fits xs G.1)
-
-pub good_known : (xs : List Item) → All Good xs → All Known (entries_of xs)
-unfolding entries_of
-good_known [] G = tt
-good_known (x ∷ xs) G = (G.0.known, good_known xs G.1)
+good_entries form P h [] G = tt
+good_entries form P h (x ∷ xs) G = (h x G.0, good_entries form P h xs G.1)
 
 pub entries_count : (xs : List Item) → length (entries_of xs) ≡ length xs
 unfolding entries_of
@@ -83,6 +80,10 @@ length_contents w at [] = omega arith
 length_contents w at (e ∷ es) = length-append (encode w e at) _ ∙ omega (arith, length_encode w e at, length_contents w (at + size_of e) es)
 
 -- ---- entries by their index
+-- the first begins where the contents do
+pub place_first : (c : Contents) → place_in c 0 ≡ c.from
+place_first c = omega arith
+
 module _ (c : Contents) (s : List ℕ) where
   pub from_length : (k i : ℕ) → length (entries_from c s k i) ≡ k
   unfolding entries_from
@@ -174,7 +175,7 @@ module _ (c : Contents) (s : List ℕ) where
 
   pub back :
       ((at : ℕ) → at ≤ c.limit → Holds c.widths.offset at at) → (es : List Entry) (i : ℕ) (b : List ℕ) →
-      drop (place_in c i) s ≡ contents c.widths (due_in c s i).at es ++ b → All Fits es → (due_in c s i).at + total es ≤ c.limit → Back es i
+      drop (place_in c i) s ≡ contents c.widths (due_in c s i).at es ++ b → All (Fits c.widths) es → (due_in c s i).at + total es ≤ c.limit → Back es i
   unfolding contents entries_from due_in total
   back O [] i b h F l = record { entries = refl; placed = λ j x y. absurd (omega arith) }
   back O (e ∷ es) i b h F l =

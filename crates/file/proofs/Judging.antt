@@ -17,16 +17,17 @@ use Rattle.file.specs.declared.layout.Entry.{Entry}
 use Rattle.file.specs.declared.contents.Contents.{Contents}
 use Rattle.file.specs.declared.contents.Due.{Due}
 use Rattle.file.specs.Layout.{offset_at, size_of}
-use Rattle.file.specs.Contents.{count_in, bodies_at, filed, lent, place_in, entry_in, due_in, offset_in}
+use Rattle.file.specs.Contents.{count_in, form_in, bodies_at, filed, lent, place_in, entry_in, due_in, offset_in}
 use Rattle.file.specs.Tries.{entry_tries, tries_in}
 use Rattle.file.specs.Steps.{Listed, Judged}
+use Rattle.file.proofs.Codec.{narrow_form}
 
 -- a file's entries and lent ones stand where they are read
-pub filed_listed : (f : List ℕ) → bodies_at (count_in f) ≤ length f → Listed (filed f) f
-filed_listed f h = record { narrow = record { offset = omega arith }; room = h; begun = h }
+pub filed_listed : (f : List ℕ) → bodies_at (form_in f) (count_in f) ≤ length f → Listed (filed f) f
+filed_listed f h = record { narrow = narrow_form (form_in f); room = h; begun = h }
 
 pub lent_listed : (es : List ℕ) (run : ℕ) → Listed (lent es run) es
-lent_listed es run = record { narrow = record { offset = omega arith }; room = omega arith; begun = omega arith }
+lent_listed es run = record { narrow = record { channels = omega arith; pairs = omega arith; offset = omega arith }; room = omega arith; begun = omega arith }
 
 -- what is tried of an entry has proper codes, and a reply of 0 says that nothing of it holds
 pub coded_entry : (c : Contents) (e : Entry) (offset : ℕ) (due : Due) (i : ℕ) → Coded (entry_tries c e offset due i)

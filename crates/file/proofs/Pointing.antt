@@ -1,24 +1,32 @@
 -- The codes of replies to a file and to what is lent, and what they point at: entries and bytes. Assumes nothing.
-use Prim.Native.Nat.{ℕ, zero, suc, ◌+◌, ◌*◌, ◌^◌, ◌≤◌, ◌<◌}
+use Prim.Native.Nat.{ℕ, ◌^◌, ◌≤◌, ◌<◌}
 use mathlib.Core.Path.{◌≡◌, refl, sym}
 use mathlib.Core.Bool.{true, false}
 use mathlib.Core.Logic.{inl, inr}
 use mathlib.Core.List.{List}
+use native.Mathlib.Nat.{mul-le-mul}
 use native.Mathlib.Omega.{arith}
 use lib.ListN.{length}
+use Rattle.reply.specs.declared.Reply.{Reply}
 use Rattle.reply.specs.Reply.{refusal}
 use Rattle.reply.specs.Codes.{among}
 use Rattle.reply.specs.Tries.{Every, Within}
 use Rattle.reply.specs.Answered.{Placed}
 use Rattle.reply.proofs.Exactly.{not_among}
+use Rattle.record.specs.declared.channels.Channels.{Channels}
+use Rattle.record.specs.Tries.{channel_tries}
 use Rattle.file.specs.declared.contents.Contents.{Contents}
-use Rattle.file.specs.Limits.{most_bytes, most_records}
-use Rattle.file.specs.Layout.{field, size_of, size_limit}
-use Rattle.file.specs.Contents.{count_in, filed, count_lent, lent, entry_in, due_in, offset_in, offset_field_in}
-use Rattle.file.specs.Items.{Bytes}
+use Rattle.file.specs.Limits.{most_records, head_bytes}
+use Rattle.file.specs.Layout.{width_of, field}
+use Rattle.file.specs.Contents.{form_in, filed, lent, due_in, offset_in, offset_field_in}
 use Rattle.file.specs.Tries.{body_codes, entry_codes, lent_codes, contents_tries, read_tries, read_codes, write_tries, write_codes}
 use Rattle.file.specs.Bodies.{Pointed}
-use Rattle.file.proofs.Codec.{entry_fits, size_is}
+use Rattle.file.specs.Steps.{Narrow}
+use Rattle.file.proofs.Codec.{narrow_form}
+
+-- ---- channels: what holds of both refusals holds of all replies
+channels_every : (P : Reply → Type 0) (ch : Channels) (p : ℕ) → P (refusal 29 p) → P (refusal 24 p) → Every P (channel_tries ch p)
+channels_every P ch p count kind = (λ _. count, λ _. (λ _ _ _ _. kind, λ _ _. kind))
 
 -- ---- entries
 module _ (c : Contents) (s : List ℕ) where
@@ -39,17 +47,17 @@ module _ (c : Contents) (s : List ℕ) where
 
   -- the replies to entries point at their entries and bytes, whatever list has their codes
   module _
-      (cs : List ℕ) (has23 : among 23 cs ≡ true) (has24 : among 24 cs ≡ true) (has28 : among 28 cs ≡ true)
+      (cs : List ℕ) (has23 : among 23 cs ≡ true) (has29 : among 29 cs ≡ true) (has24 : among 24 cs ≡ true) (has28 : among 28 cs ≡ true)
       (has22 : (i : ℕ) → (offset_in c s i ≡ (due_in c s i).at → ⊥) → among 22 cs ≡ true) where
     pub entries_within : Within cs (contents_tries c s)
-    entries_within = λ i a b. (λ _. has23, λ _. (λ _. has24, λ _. (λ w. has22 i w, λ _ _. has28)))
+    entries_within = λ i a b. (λ _. has23, λ _. (channels_every (λ r. among r.code cs ≡ true) _ i has29 has24, λ _. (λ w. has22 i w, λ _ _. has28)))
 
     pub entries_pointed : c.count ≤ most_records → Every (Pointed cs c) (contents_tries c s)
     unfolding among
     entries_pointed few = λ i a b. (
       λ _. plain cs 23 i refl (inr (has23, (b, few))),
       λ _. (
-        λ _. plain cs 24 i refl (inr (has24, (b, few))),
+        channels_every (Pointed cs c) _ i (plain cs 29 i refl (inr (has29, (b, few)))) (plain cs 24 i refl (inr (has24, (b, few)))),
         λ _. (
           λ w. (inr (has22 i w, (b, few)), record { misplaced = λ _. refl; past_end = λ e. absurd (omega arith); other = λ n _. absurd (n refl) }),
           λ _ _. (inr (has28, (b, few)), record { misplaced = λ e. absurd (omega arith); past_end = λ _. refl; other = λ _ n. absurd (n refl) }),
@@ -57,25 +65,20 @@ module _ (c : Contents) (s : List ℕ) where
       ),
     )
 
-  -- where bodies are due, at most
-  due_near : Bytes s → (i : ℕ) → (due_in c s i).at ≤ c.start + size_limit * i
-  unfolding due_in
-  due_near B zero = omega arith
-  due_near B (suc i) =
-      let before = due_near B i in
-      let size = size_is (entry_in c s i) (entry_fits s B _) in
-      omega arith
+  -- offset fields of so few entries stand near, so every position takes 32 bits where the limit does
+  pub field_near : Narrow c.widths → c.from ≤ head_bytes → (i : ℕ) → i < most_records → offset_field_in c i < 2 ^ 32
+  field_near N near i l =
+      let most = mul-le-mul {n₁ = width_of c.widths} {m₁ = i} {n₂ = 19} {m₂ = most_records} (omega (arith, N.channels, N.pairs, N.offset)) (omega arith) in
+      omega (arith, most, N.channels, N.pairs)
 
-  -- a body of one of so few entries passes no end that is farther than 32 bits can say
-  end_near : Bytes s → c.count ≤ most_records → c.start ≤ most_bytes → (i : ℕ) → i < c.count → c.limit < (due_in c s i).at + size_of (entry_in c s i) → c.limit < 2 ^ 32
-  end_near B few near i h past = let size = size_is (entry_in c s i) (entry_fits s B _) in omega (arith, due_near B i)
-
-  -- so every position takes 32 bits
   pub entries_near :
-      ((i : ℕ) → i < c.count → offset_field_in c i < 2 ^ 32) →
-      ((i : ℕ) → i < c.count → c.limit < (due_in c s i).at + size_of (entry_in c s i) → c.limit < 2 ^ 32) →
-      Every (λ r. r.position < 2 ^ 32) (contents_tries c s)
-  entries_near fields ends = λ i a b. (λ _. omega arith, λ _. (λ _. omega arith, λ _. (λ _. fields i b, λ _ past. ends i b past)))
+      Narrow c.widths → c.from ≤ head_bytes → c.count ≤ most_records → c.limit < 2 ^ 32 → Every (λ r. r.position < 2 ^ 32) (contents_tries c s)
+  entries_near N near few short =
+      let none : 0 < 2 ^ 32 = omega arith in
+      λ i a b. (
+        λ _. none,
+        λ _. (channels_every (λ r. r.position < 2 ^ 32) _ i none none, λ _. (λ _. field_near N near i (omega arith), λ _ _. short)),
+      )
 
 -- ---- a file
 module _ (f : List ℕ) where
@@ -87,7 +90,7 @@ module _ (f : List ℕ) where
   unfolding read_tries among
   read_pointed = (
     search bare depth 20,
-    λ head. (entries_pointed (filed f) f entry_codes refl refl refl (λ _ _. refl) head.1.1.0.1, search bare depth 20),
+    λ head. (entries_pointed (filed f) f entry_codes refl refl refl refl (λ _ _. refl) head.1.1.0.1.0, search bare depth 20),
   )
 
   pub read_near : Every (λ r. r.position < 2 ^ 32) (read_tries f)
@@ -96,7 +99,7 @@ module _ (f : List ℕ) where
       let none : 0 < 2 ^ 32 = omega arith in (
         search depth 20,
         λ head. (
-          (let few : count_in f ≤ most_records = head.1.1.0.1 in entries_near (filed f) f (λ i b. omega arith) (λ _ _ _. omega (arith, head.0))),
+          (entries_near (filed f) f (narrow_form (form_in f)) (omega arith) head.1.1.0.1.0 (omega (arith, head.0))),
           search depth 20,
         ),
       )
@@ -107,40 +110,26 @@ lent_placed : (es : List ℕ) (run i : ℕ) → offset_in (lent es run) es i ≡
 unfolding field
 lent_placed es run i = refl
 
-module _ (es bs : List ℕ) (room : ℕ) where
+module _ (form : ℕ) (es bs : List ℕ) (room : ℕ) where
   abbrev given : Contents
   given = lent es (length bs)
 
-  pub write_within : Within write_codes (write_tries es bs room)
+  pub write_within : Within write_codes (write_tries form es bs room)
   unfolding write_tries among
   write_within = (
     search depth 20,
     λ _. (
-      (entries_within given es write_codes refl refl refl (λ i w. absurd (w (lent_placed es (length bs) i))), search depth 20),
+      (entries_within given es write_codes refl refl refl refl (λ i w. absurd (w (lent_placed es (length bs) i))), search depth 20),
       search depth 20,
     ),
   )
 
-  pub write_pointed : Every (Pointed lent_codes given) (write_tries es bs room)
+  pub write_pointed : Every (Pointed lent_codes given) (write_tries form es bs room)
   unfolding write_tries among
   write_pointed = (
     search bare depth 20,
     λ head. (
-      (entries_pointed given es lent_codes refl refl refl (λ i w. absurd (w (lent_placed es (length bs) i))) head.1.1, search bare depth 20),
+      (entries_pointed given es lent_codes refl refl refl refl (λ i w. absurd (w (lent_placed es (length bs) i))) head.1.0.1.0, search bare depth 20),
       search bare depth 20,
     ),
   )
-
-  pub write_near : Bytes es → Every (λ r. r.position < 2 ^ 32) (write_tries es bs room)
-  unfolding write_tries
-  write_near B =
-      let none : 0 < 2 ^ 32 = omega arith in (
-        search depth 20,
-        λ head. (
-          (
-            (let few : count_lent es ≤ most_records = head.1.1 in entries_near given es (λ i b. omega arith) (end_near given es B few (omega arith))),
-            search depth 20,
-          ),
-          search depth 20,
-        ),
-      )

@@ -1,5 +1,5 @@
 -- Record i of an accepted file, as the reader finds it. Assumes nothing.
-use Prim.Native.Nat.{ℕ, ◌+◌, ◌-◌, ◌≤◌, ◌<◌}
+use Prim.Native.Nat.{ℕ, zero, suc, ◌+◌, ◌-◌, ◌≤◌, ◌<◌}
 use mathlib.Core.Path.{◌≡◌, refl, sym, ap, subst, ◌∙◌}
 use mathlib.Core.List.{List}
 use native.Mathlib.Omega.{arith}
@@ -7,8 +7,8 @@ use lib.ListN.{take, drop}
 use Rattle.file.specs.declared.layout.Entry.{Entry}
 use Rattle.file.specs.declared.contents.Contents.{Contents}
 use Rattle.file.specs.Limits.{most_bytes}
-use Rattle.file.specs.Layout.{in_file, field, offset_at, size_of}
-use Rattle.file.specs.Contents.{count_in, filed, place_in, entry_in, due_in}
+use Rattle.file.specs.Layout.{widths_of, field, offset_at, size_of}
+use Rattle.file.specs.Contents.{count_in, form_in, filed, place_in, entry_in, due_in}
 use Rattle.file.specs.Items.{Item, item_at}
 use Rattle.file.specs.Tries.{read_reply}
 use Rattle.file.specs.Steps.{Listed, Stands}
@@ -19,9 +19,10 @@ use Rattle.file.proofs.Items.{item_in}
 use Rattle.file.proofs.Round.{item_is}
 
 -- the offset of a file's entry does not go by where its body is due, and takes four bytes
-offset_any : (f : List ℕ) (p d e : ℕ) → offset_at in_file f p d ≡ offset_at in_file f p e
+offset_any : (form : ℕ) (f : List ℕ) (p d e : ℕ) → offset_at (widths_of form) f p d ≡ offset_at (widths_of form) f p e
 unfolding field
-offset_any f p d e = refl
+offset_any zero f p d e = refl
+offset_any (suc form) f p d e = refl
 
 module _ (f : List ℕ) (c : Contents) (hc : c ≡ filed f) where
   module _ (z : (read_reply f).code ≡ 0) where
@@ -40,7 +41,7 @@ module _ (f : List ℕ) (c : Contents) (hc : c ≡ filed f) where
           let item : item_at f i ≡ item_in (filed f) f f i = item_is f i h in
           let entry_is : e ≡ entry_in (filed f) f i = he ∙ ap (λ (x : Contents). entry_in x f i) hc in
           let from_is : from ≡ at =
-          hf ∙ ap (λ (x : Contents). offset_at x.widths f (place_in x i) due) hc ∙ offset_any f (place_in (filed f) i) due at ∙ A.regular.placed i h in
+          hf ∙ ap (λ (x : Contents). offset_at x.widths f (place_in x i) due) hc ∙ offset_any (form_in f) f (place_in (filed f) i) due at ∙ A.regular.placed i h in
           let size_is : size ≡ size_of (entry_in (filed f) f i) = hs ∙ ap size_of entry_is in
           let long : from + size - from ≡ size_of (entry_in (filed f) f i) = omega arith in
           record {

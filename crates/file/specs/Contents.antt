@@ -4,20 +4,29 @@ use Rattle.table.specs.Num.{num}
 use Rattle.file.specs.declared.layout.Entry.{Entry}
 use Rattle.file.specs.declared.contents.Contents.{Contents}
 use Rattle.file.specs.declared.contents.Due.{Due}
-use Rattle.file.specs.Limits.{count_bytes}
-use Rattle.file.specs.Layout.{in_file, as_lent, width_of, to_offset, entry_at, offset_at, size_of}
+use Rattle.file.specs.Limits.{count_bytes, form_bytes, head_bytes}
+use Rattle.file.specs.Layout.{widths_of, as_lent, width_of, to_offset, entry_at, offset_at, size_of}
 
--- "Two bytes give the count of records"
+-- "The file's second byte, always 0 so far, becomes its form": the first is the count of records.
 abbrev pub count_in : List ℕ → ℕ
 count_in f = num count_bytes f 0
 
--- "the first beginning where the contents end": where the bodies of n records begin.
-abbrev pub bodies_at : ℕ → ℕ
-bodies_at n = count_bytes + width_of in_file * n
+abbrev pub form_in : List ℕ → ℕ
+form_in f = num form_bytes f count_bytes
 
--- The contents of a file: "then the contents, 12 bytes an entry; then the bodies".
+-- "the first beginning where the contents end": where the bodies of n records begin.
+abbrev pub bodies_at : (form n : ℕ) → ℕ
+bodies_at form n = head_bytes + width_of (widths_of form) * n
+
+-- The contents of a file: "then the contents", 12 or 19 bytes an entry; "then the bodies".
 abbrev pub filed : List ℕ → Contents
-filed f = record { widths = in_file; count = count_in f; from = count_bytes; start = bodies_at (count_in f); limit = length f }
+filed f = record {
+  widths = widths_of (form_in f);
+  count = count_in f;
+  from = head_bytes;
+  start = bodies_at (form_in f) (count_in f);
+  limit = length f;
+}
 
 -- Lent entries, whose bodies are a run of so many bytes.
 abbrev pub lent_bytes : ℕ
@@ -34,7 +43,7 @@ abbrev pub place_in : Contents → ℕ → ℕ
 place_in c i = c.from + width_of c.widths * i
 
 abbrev pub entry_in : Contents → List ℕ → ℕ → Entry
-entry_in c s i = entry_at s (place_in c i)
+entry_in c s i = entry_at c.widths s (place_in c i)
 
 -- All of them: the k entries from entry i on.
 unfoldable pub entries_from : Contents → List ℕ → (k i : ℕ) → List Entry
@@ -55,4 +64,4 @@ offset_in c s i = offset_at c.widths s (place_in c i) (due_in c s i).at
 
 -- Where that field begins.
 abbrev pub offset_field_in : Contents → ℕ → ℕ
-offset_field_in c i = to_offset (place_in c i)
+offset_field_in c i = to_offset c.widths (place_in c i)

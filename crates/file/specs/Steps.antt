@@ -6,7 +6,8 @@ use Rattle.reply.specs.Tries.{first_of}
 use Rattle.file.specs.declared.layout.Widths.{Widths}
 use Rattle.file.specs.declared.contents.Contents.{Contents}
 use Rattle.file.specs.declared.reader.Found.{Found}
-use Rattle.file.specs.Limits.{most_bytes, most_records, offset_bytes}
+use Rattle.record.specs.Limits.{pairs_bytes}
+use Rattle.file.specs.Limits.{most_bytes, most_records, channels_bytes, offset_bytes}
 use Rattle.file.specs.Layout.{size_of}
 use Rattle.file.specs.Contents.{bodies_at, filed, place_in, due_in, offset_in, offset_field_in}
 use Rattle.file.specs.Items.{item_at}
@@ -14,6 +15,8 @@ use Rattle.file.specs.Tries.{contents_tries}
 
 -- Widths of fields that a number takes.
 pub record Narrow (w : Widths) : Type 0 where
+  pub channels : w.channels ≤ channels_bytes
+  pub pairs : w.pairs ≤ pairs_bytes
   pub offset : w.offset ≤ offset_bytes
 
 -- Entry i of c stands where a number of 64 bits can say.
@@ -34,11 +37,11 @@ pub record Judged (r : Result ℕ Refusal) (c : Contents) (s : List ℕ) : Type 
   pub within : IfOk r (λ e. e ≤ c.limit)
 
 -- Room for the contents of a file of the entries of c, whose bodies begin at `start`.
-pub record Roomy (c : Contents) (s : List ℕ) (start : ℕ) (out : List ℕ) : Type 0 where
+pub record Roomy (form : ℕ) (c : Contents) (s : List ℕ) (start : ℕ) (out : List ℕ) : Type 0 where
   pub listed : Listed c s
   pub few : c.count ≤ most_records
   pub near : start ≤ most_bytes
-  pub fits : bodies_at c.count ≤ length out
+  pub fits : bodies_at form c.count ≤ length out
 
 -- Record i of an accepted file: its entry, and where its body stands in the file, which is where its offset points.
 pub record Stands (r : Found) (f : List ℕ) (i : ℕ) : Type 0 where

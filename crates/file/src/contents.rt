@@ -4,9 +4,9 @@ ghost use Rattle.reply.specs.Reply.{refusal};
 ghost use Rattle.reply.specs.Refusal.{code_in, reply_of};
 ghost use Rattle.reply.specs.Tries.{first_of};
 ghost use Rattle.file.specs.Limits.{most_count};
-ghost use Rattle.file.specs.Layout.{offset_at, Fits, size_of};
+ghost use Rattle.file.specs.Layout.{as_lent, offset_at, Fits, size_of};
 ghost use Rattle.file.specs.Contents.{bodies_at, place_in, entry_in, offset_field_in};
-ghost use Rattle.file.specs.Tries.{count_try, entry_tries, entries_tries};
+ghost use Rattle.file.specs.Tries.{shape_try, held_tries, entry_tries, entries_tries};
 ghost use Rattle.file.specs.Steps.{Near, Listed, Judged};
 
 use crate::layout::{Entry, Widths};
@@ -39,19 +39,19 @@ pub(crate) struct Due {
 }
 
 // Where the bodies of a file of `count` records begin.
-pub(crate) fn bodies_at(count: usize) -> usize
+pub(crate) fn bodies_at(form: u64, count: usize) -> usize
     requires { count ≤ most_count }
-    ensures { result ≡ bodies_at count }
+    ensures { result ≡ bodies_at form count }
 {
-    limits::COUNT_BYTES + Widths::in_file().width() * count
+    limits::HEAD_BYTES + Widths::of_form(form).width() * count
 }
 
-// 21: how many records there are.
+// 21: how many records there are, and in which form.
 #[tactic(auto, using(reply::proofs::Answers::answers))]
-pub(crate) fn judge_count(count: usize) -> Result<(), Reason>
-    ensures { refusal (code_in result) 0 ≡ first_of (count_try count) }
+pub(crate) fn judge_shape(count: usize, form: u64) -> Result<(), Reason>
+    ensures { refusal (code_in result) 0 ≡ first_of (shape_try count form) }
 {
-    if count == 0 || limits::MOST_RECORDS < count {
+    if count == 0 || limits::MOST_RECORDS < count || limits::MOST_FORM < form {
         return Err(Reason::RecordCount);
     }
     Ok(())
@@ -71,22 +71,20 @@ impl Contents {
         requires { Near self i }
         ensures { result ≡ offset_field_in self i }
     {
-        self.place_in(i) + limits::OFFSET_AT
+        self.widths.fields_at(self.place_in(i)).offset
     }
 
-    // 23, 24, 22 and 28: entry i, by its fields, its offset, and what is due of it; and where its body ends.
+    // 23, 29, 24, 22 and 28: entry i, by its fields, its offset, and what is due of it; and where its body ends.
     #[tactic(auto, using(reply::proofs::Answers::answers))]
     fn judge_entry(self, e: Entry, offset: usize, due: Due, i: usize) -> Result<usize, Refusal>
-        requires { Near self i × Fits e × (due.at ≤ self.limit) }
+        requires { Near self i × Fits as_lent e × (due.at ≤ self.limit) }
         ensures reply { reply_of result ≡ first_of (entry_tries self e offset due i) }
         ensures ended { IfOk result (λ at. at ≡ due.at + size_of e) }
     {
         if e.term < due.floor {
             return Err(Reason::TermNotAbove.at(i as u64));
         }
-        if record::MOST_KIND < e.asked.kind {
-            return Err(Reason::UnknownKind.at(i as u64));
-        }
+        e.asked.channels.judge(i as u64)?;
         if offset != due.at {
             return Err(Reason::BodyMisplaced.at_byte(i as u64, self.offset_field_in(i) as u64));
         }
@@ -101,9 +99,10 @@ impl Entries<'_> {
     // Entry i.
     pub(crate) fn entry(&self, i: usize) -> Entry
         requires { i < self.now.contents.count }
-        ensures { (result ≡ entry_in self.now.contents self.now.bytes.now i) × Fits result }
+        ensures { (result ≡ entry_in self.now.contents self.now.bytes.now i) × Fits as_lent result }
     {
-        layout::entry_at(self.bytes, self.contents.place_in(i))
+        let c = self.contents;
+        layout::entry_at(self.bytes, c.place_in(i), c.widths)
     }
 
     // The offset of entry i, whose body is due at `due`.
@@ -113,6 +112,19 @@ impl Entries<'_> {
     {
         let c = self.contents;
         layout::offset_at(self.bytes, c.place_in(i), c.widths, due)
+    }
+
+    // 21: whether the form can say how many channels each entry has.
+    pub(crate) fn judge_held(&self, form: u64) -> Result<(), Reason>
+        ensures { refusal (code_in result) 0 ≡ first_of (held_tries form self.now.contents self.now.bytes.now) }
+    {
+        let held = layout::channels_held(form);
+        for i in 0..self.contents.count {
+            if held < self.entry(i).asked.channels.count {
+                return Err(Reason::RecordCount);
+            }
+        }
+        Ok(())
     }
 
     // All entries: where their bodies end.

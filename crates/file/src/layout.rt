@@ -2,16 +2,28 @@
 ghost use Rattle.std.specs.Prelude.{◌≡◌, ◌+◌, ◌≤◌, ◌<◌, ◌^◌, length};
 ghost use Rattle.table.specs.Num.{num};
 ghost use Rattle.buffer.specs.Laid.{laid};
-ghost use Rattle.file.specs.Layout.{in_file, as_lent, width_of, to_offset, entry_at, offset_at, encode, Fits, size_of, size_limit};
+ghost use Rattle.file.specs.Layout.{widths_of, as_lent, channels_held, width_of, to_offset, fields_at, field, entry_at, offset_at, encode, Fits, size_of, size_limit};
 ghost use Rattle.file.specs.Steps.{Narrow};
 
 use crate::limits;
-use record::Asked;
+use record::{Asked, Channels};
 
-// A layout: the widths of the fields that not every layout has, 0 where there is no such field. That they are `Narrow` is asked in clauses: `entry_back`
-// and `entry_kept` hold of every layout.
+// A layout: the widths of the fields that not every layout has, or has as wide, 0 where there is no such field. That they are `Narrow` is asked in clauses:
+// `entry_back` and `entry_kept` hold of every layout.
 #[derive(Clone, Copy, Debug, PartialEq, Eq)]
 pub(crate) struct Widths {
+    pub channels: usize,
+    pub pairs: usize,
+    pub offset: usize,
+}
+
+// Where the fields behind an entry's term number stand.
+#[derive(Clone, Copy, Debug, PartialEq, Eq)]
+pub(crate) struct Fields {
+    pub channels: usize,
+    pub pairs: usize,
+    pub dmax: usize,
+    pub n: usize,
     pub offset: usize,
 }
 
@@ -25,20 +37,33 @@ pub struct Entry {
 }
 
 impl Widths {
-    // The widths of a file's entries.
-    pub(crate) fn in_file() -> Widths
-        ensures { (result ≡ in_file) × Narrow result }
+    // The widths of the entries of a file of this form.
+    pub(crate) fn of_form(form: u64) -> Widths
+        ensures { (result ≡ widths_of form) × Narrow result }
     {
-        Widths {
-            offset: limits::OFFSET_BYTES,
+        match form {
+            0 => Widths {
+                channels: 0,
+                pairs: limits::PAIR_BYTES,
+                offset: limits::OFFSET_BYTES,
+            },
+            _ => Widths {
+                channels: limits::CHANNELS_BYTES,
+                pairs: limits::PAIRS_BYTES,
+                offset: limits::OFFSET_BYTES,
+            },
         }
     }
 
-    // The widths of lent entries.
+    // The widths of lent entries, whatever the form.
     pub(crate) fn as_lent() -> Widths
         ensures { (result ≡ as_lent) × Narrow result }
     {
-        Widths { offset: 0 }
+        Widths {
+            channels: limits::CHANNELS_BYTES,
+            pairs: limits::PAIRS_BYTES,
+            offset: 0,
+        }
     }
 
     // How many bytes an entry has.
@@ -46,18 +71,52 @@ impl Widths {
         requires { Narrow self }
         ensures { result ≡ width_of self }
     {
-        limits::LENT_BYTES + self.offset
+        limits::TERM_BYTES
+            + self.channels
+            + self.pairs
+            + limits::DMAX_BYTES
+            + limits::N_BYTES
+            + self.offset
+    }
+
+    // Where the fields of the entry at p stand.
+    pub(crate) fn fields_at(self, p: usize) -> Fields
+        requires { to_offset self p < 2 ^ 64 }
+        ensures { result ≡ fields_at self p }
+    {
+        let channels = p + limits::TERM_BYTES;
+        let pairs = channels + self.channels;
+        let dmax = pairs + self.pairs;
+        let n = dmax + limits::DMAX_BYTES;
+        let offset = n + limits::N_BYTES;
+        Fields {
+            channels,
+            pairs,
+            dmax,
+            n,
+            offset,
+        }
     }
 }
 
 impl Entry {
     // How many bytes the entry's body has.
-    #[tactic(auto, unfolding(crate::specs::Layout::size_of))]
+    #[tactic(auto, using(crate::proofs::Codec::size_is))]
     pub(crate) fn size_of(self) -> usize
-        requires { Fits self }
+        requires { Fits as_lent self }
         ensures { (result ≡ size_of self) × (result < size_limit) }
     {
-        record::OBSERVATION_BYTES * self.n
+        self.asked.channels.observation_bytes() * self.n
+    }
+}
+
+// How many channels the entries of a form can say.
+pub(crate) fn channels_held(form: u64) -> usize
+    ensures { result ≡ channels_held form }
+{
+    match form {
+        0 => limits::ONE_CHANNEL,
+        _ => limits::MOST_SAID,
     }
 }
 
@@ -70,31 +129,40 @@ pub(crate) fn number(s: &[u8], at: usize, k: usize) -> u64
     table::load(s, at, k)
 }
 
-// The entry at p.
-#[tactic(auto, unfolding(crate::specs::Layout::entry_at))]
-pub(crate) fn entry_at(s: &[u8], p: usize) -> Entry
-    requires { to_offset p ≤ length s.now }
-    ensures { (result ≡ entry_at s.now p) × Fits result }
+// A field of k bytes; one that is not there is d.
+#[tactic(auto, using(crate::proofs::Codec::field_none, crate::proofs::Codec::field_some))]
+fn field(s: &[u8], at: usize, k: usize, d: u64) -> u64
+    requires { (at + k ≤ length s.now) × (k ≤ 8) }
+    ensures { result ≡ field k d s.now at }
 {
+    if k == 0 {
+        return d;
+    }
+    number(s, at, k)
+}
+
+// The entry at p.
+pub(crate) fn entry_at(s: &[u8], p: usize, w: Widths) -> Entry
+    requires { (to_offset w p ≤ length s.now) × Narrow w }
+    ensures { (result ≡ entry_at w s.now p) × Fits as_lent result }
+{
+    let at = w.fields_at(p);
     let term = number(s, p, limits::TERM_BYTES);
-    let kernel = number(s, p + limits::KERNEL_AT, limits::KERNEL_BYTES);
-    let kind = number(s, p + limits::KIND_AT, limits::KIND_BYTES);
-    let dmax = number(s, p + limits::DMAX_AT, limits::DMAX_BYTES) as usize;
-    let n = number(s, p + limits::N_AT, limits::N_BYTES) as usize;
-    let asked = Asked { kernel, kind, dmax };
+    let count = field(s, at.channels, w.channels, 1) as usize;
+    let pairs = number(s, at.pairs, w.pairs);
+    let dmax = number(s, at.dmax, limits::DMAX_BYTES) as usize;
+    let n = number(s, at.n, limits::N_BYTES) as usize;
+    let channels = Channels { count, pairs };
+    let asked = Asked { channels, dmax };
     Entry { term, asked, n }
 }
 
 // The offset of the entry at p; one that is not there is where the body is due.
-#[tactic(auto, using(crate::proofs::Codec::field_none, crate::proofs::Codec::offset_some))]
 pub(crate) fn offset_at(s: &[u8], p: usize, w: Widths, due: usize) -> usize
     requires { (p + width_of w ≤ length s.now) × Narrow w }
     ensures { result ≡ offset_at w s.now p due }
 {
-    if w.offset == 0 {
-        return due;
-    }
-    number(s, p + limits::OFFSET_AT, w.offset) as usize
+    field(s, w.fields_at(p).offset, w.offset, due as u64) as usize
 }
 
 // Writes the entry e, whose body begins at `at`, from p on.
@@ -103,11 +171,12 @@ pub(crate) fn put_entry(out: &mut [u8], p: usize, w: Widths, e: Entry, at: usize
     requires { p + width_of w ≤ length out.old }
     ensures { out.new ≡ laid out.old p (encode w e at) }
 {
-    let Asked { kernel, kind, dmax } = e.asked;
+    let to = w.fields_at(p);
+    let Asked { channels, dmax } = e.asked;
     table::store(out, p, limits::TERM_BYTES, e.term);
-    table::store(out, p + limits::KERNEL_AT, limits::KERNEL_BYTES, kernel);
-    table::store(out, p + limits::KIND_AT, limits::KIND_BYTES, kind);
-    table::store(out, p + limits::DMAX_AT, limits::DMAX_BYTES, dmax as u64);
-    table::store(out, p + limits::N_AT, limits::N_BYTES, e.n as u64);
-    table::store(out, p + limits::OFFSET_AT, w.offset, at as u64);
+    table::store(out, to.channels, w.channels, channels.count as u64);
+    table::store(out, to.pairs, w.pairs, channels.pairs);
+    table::store(out, to.dmax, limits::DMAX_BYTES, dmax as u64);
+    table::store(out, to.n, limits::N_BYTES, e.n as u64);
+    table::store(out, to.offset, w.offset, at as u64);
 }

@@ -3,8 +3,8 @@ ghost use Rattle.std.specs.Prelude.{◌≡◌, ◌≤◌, ◌<◌, length, IfOk}
 ghost use Rattle.reply.specs.Reply.{refusal};
 ghost use Rattle.reply.specs.Refusal.{code_in, reply_of};
 ghost use Rattle.reply.specs.Tries.{first_of};
-ghost use Rattle.file.specs.Limits.{most_records, count_bytes};
-ghost use Rattle.file.specs.Contents.{count_in, filed};
+ghost use Rattle.file.specs.Limits.{most_records, head_bytes};
+ghost use Rattle.file.specs.Contents.{count_in, form_in, filed};
 ghost use Rattle.file.specs.Tries.{head_tries, read_reply};
 ghost use Rattle.file.specs.Steps.{Stands};
 
@@ -28,18 +28,27 @@ pub struct Found {
     pub end: usize,
 }
 
+// The form of a file.
+fn form_of(file: &[u8]) -> u64
+    requires { head_bytes ≤ length file.now }
+    ensures { result ≡ form_in file.now }
+{
+    layout::number(file, limits::COUNT_BYTES, limits::FORM_BYTES)
+}
+
 // Where the entries of a file stand.
 fn contents_of(file: &[u8]) -> Contents
-    requires { count_bytes ≤ length file.now }
+    requires { head_bytes ≤ length file.now }
     ensures { result ≡ filed file.now }
 {
-    let widths = Widths::in_file();
     let count = layout::number(file, 0, limits::COUNT_BYTES) as usize;
-    let start = contents::bodies_at(count);
+    let form = form_of(file);
+    let widths = Widths::of_form(form);
+    let start = contents::bodies_at(form, count);
     Contents {
         widths,
         count,
-        from: limits::COUNT_BYTES,
+        from: limits::HEAD_BYTES,
         start,
         limit: file.len(),
     }
@@ -54,11 +63,11 @@ fn judge_head(file: &[u8]) -> Result<Entries<'_>, Reason>
     if limits::MOST_BYTES < file.len() {
         return Err(Reason::FileTooLong);
     }
-    if file.len() < limits::COUNT_BYTES {
+    if file.len() < limits::HEAD_BYTES {
         return Err(Reason::FileTooShort);
     }
     let contents = contents_of(file);
-    contents::judge_count(contents.count)?;
+    contents::judge_shape(contents.count, form_of(file))?;
     if file.len() < contents.start {
         return Err(Reason::FileTooShort);
     }

@@ -1,25 +1,18 @@
--- Samples in range by their levels, x + 1,000,000, which are natural numbers: the distances, and the cost in units.
+-- Samples in range by their levels, x + 1,000,000, which are natural numbers: the distances.
 -- Assumes nothing.
-use mathlib.Core.Path.{◌≡◌, refl, sym, ap, ◌∙◌}
+use mathlib.Core.Path.{◌≡◌, refl}
 use mathlib.Core.Bool.{Bool, true, false, cond}
-use mathlib.Core.List.{List, map}
 use Prim.Native.Nat.{ℕ, suc, ◌+◌, ◌≤◌}
 use native.Mathlib.Nat.{mul-le-mul}
 use native.Mathlib.Omega.{arith}
 use lib.Dec.{eqb}
-use lib.ListN.{length}
 use lib.IntN.{ℤ, pos, negsuc, ◌+ℤ◌}
 use Rattle.kernel.specs.declared.Kernel.{Kernel}
 use Rattle.kernel.specs.declared.Kernel.TheVariants.{Linear, Spelling, Energy}
 use Rattle.sample.specs.Level.{InRange, level}
-use Rattle.kernel.specs.Cost.{units_of, units}
-use Rattle.kernel.specs.Kernel.{kernel, gap, far, dist}
-use Rattle.lists.specs.Lists.{All}
-use Rattle.kernel.specs.Pairs.{pairs}
+use Rattle.kernel.specs.Kernel.{gap, far, dist}
 use Rattle.kernel.proofs.Diff.{up, dn, ◌⊖◌, parts, nat_abs-⊖, nat_abs_parts, up_only}
-use Rattle.kernel.proofs.Kernels.{gap_parts, law}
-use Rattle.kernel.proofs.Law.{units_nat}
-use Rattle.kernel.proofs.Sums.{pairs_map}
+use Rattle.kernel.proofs.Kernels.{gap_parts}
 
 level_parts : (x : ℤ) → InRange x → level x + dn x ≡ up x + 1000000
 unfolding ◌⊖◌
@@ -52,11 +45,3 @@ dist_le Energy g h = omega arith
 -- the distance of two samples is that of the two naturals
 pub level_gap : (x y : ℤ) → InRange x → InRange y → far (level x) (level y) ≡ gap x y
 level_gap x y h k = omega (arith, gap_parts x y, level_parts x h, level_parts y k)
-
-pub units_level :
-    (k : Kernel) (l : List ℤ) → All InRange l →
-    units (kernel k) l ≡ units_of (pairs (λ u v. dist k (far u v)) (map level l)) (length l)
-units_level k l a =
-    units_nat (law k) l
-    ∙ ap (λ r. units_of r (length l))
-    (sym (pairs_map InRange level (λ x y. dist k (gap x y)) (λ u v. dist k (far u v)) (λ x y p q. ap (dist k) (level_gap x y p q)) l a))

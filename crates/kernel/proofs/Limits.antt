@@ -4,7 +4,7 @@ use Prim.Native.Nat.{ℕ, ◌*◌, ◌≤◌}
 use native.Mathlib.Nat.{mul-le-mul}
 use native.Mathlib.Omega.{arith}
 use lib.ListN.{length}
-use lib.IntN.{ℤ}
+use lib.IntN.{ℤ, pos}
 use Rattle.kernel.specs.declared.Kernel.{Kernel}
 use Rattle.kernel.specs.declared.Kernel.TheVariants.{Linear, Spelling, Energy}
 use Rattle.sample.specs.Level.{InRange}
@@ -28,4 +28,4 @@ sum_le P f c h (x ∷ l) a = omega (arith, h x a.0, sum_le P f c h l a.1)
 -- several channels, each in range
 pub owns_le : (ks : List Kernel) (x : List ℤ) → InRanges ks x → owns ks x ≤ length ks * 1000000000000
 owns_le [] x p = omega arith
-owns_le (k ∷ ks) x p = omega (arith, own_le k (first x) p.0, owns_le ks (others x) p.1)
+owns_le (k ∷ ks) x p = omega (arith, own_le k (first (pos 0) x) p.0, owns_le ks (others x) p.1)

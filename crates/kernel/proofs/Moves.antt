@@ -1,18 +1,15 @@
 -- Changes of the samples that keep R, and so the cost. Assumes nothing.
 use mathlib.Core.Path.{◌≡◌, sym, ap, ap₂, ◌∙◌}
-use mathlib.Core.Bool.{cond}
 use mathlib.Core.List.{List, map}
 use Prim.Native.Nat.{ℕ}
 use native.Mathlib.Omega.{arith}
 use lib.ListN.{length-map}
 use lib.IntN.{ℤ, pos, nat_abs, neg_ℤ, ◌+ℤ◌}
 use Rattle.kernel.specs.declared.Kernel.{Kernel}
-use Rattle.kernel.specs.declared.Kernel.TheVariants.{Spelling}
 use Rattle.kernel.specs.Cost.{R, units_of, units}
 use Rattle.kernel.specs.Kernel.{gap, dist}
 use Rattle.lists.specs.Lists.{All}
 use Rattle.kernel.proofs.Diff.{view, nat_abs-⊖, diff}
-use Rattle.kernel.proofs.Kernels.{gap_self, gap_zero, agree}
 use Rattle.kernel.proofs.Law.{Law, R_nat}
 use Rattle.kernel.proofs.Sums.{pairs_map}
 
@@ -27,25 +24,14 @@ module _ {S T : Type 0} {k : S → S → ℤ} {k' : T → T → ℤ} {d : S → 
   unfolding units
   units_kept l p = ap₂ (λ r m. units_of (nat_abs r) m) (R_kept l p) (length-map l f)
 
--- ---- the kernels' own: a map f that keeps the distance of all samples that have P
-abbrev pub Kept : Kernel → (ℤ → Type 0) → (ℤ → ℤ) → Type 0
-Kept k P f = (x y : ℤ) → P x → P y → dist k (gap (f x) (f y)) ≡ dist k (gap x y)
+-- ---- the kernels' own: a map f that keeps the distance of any two numbers
+abbrev pub Kept : Kernel → (ℤ → ℤ) → Type 0
+Kept k f = (x y : ℤ) → dist k (gap (f x) (f y)) ≡ dist k (gap x y)
 
 -- one whole number added to all samples
-pub shift_kept : (k : Kernel) (c : ℤ) → Kept k (λ x. Unit {0}) (λ x. x +ℤ c)
-shift_kept k c x y p q = ap (dist k) (rw (view x, view y, view c) (simp (diff, nat_abs-⊖) (omega arith)))
+pub shift_kept : (k : Kernel) (c : ℤ) → Kept k (λ x. x +ℤ c)
+shift_kept k c x y = ap (dist k) (rw (view x, view y, view c) (simp (diff, nat_abs-⊖) (omega arith)))
 
 -- all signs changed
-pub sign_kept : (k : Kernel) → Kept k (λ x. Unit {0}) neg_ℤ
-sign_kept k x y p q = ap (dist k) (rw (view x, view y) (simp (diff, nat_abs-⊖) (omega arith)))
-
--- kernel 2: a recoding that keeps unequal samples unequal; equal ones stay equal under any map
-pub recode_kept : (P : ℤ → Type 0) (f : ℤ → ℤ) → ((x y : ℤ) → P x → P y → f x ≡ f y → x ≡ y) → Kept Spelling P f
-unfolding dist
-recode_kept P f apart x y p q = ap (λ t. cond t 0 2) (agree (gap (f x) (f y)) 0 (gap x y) 0 there back)
-  where
-    there : gap (f x) (f y) ≡ 0 → gap x y ≡ 0
-    there h = rw (apart x y p q (gap_zero (f x) (f y) h)) (gap_self y)
-
-    back : gap x y ≡ 0 → gap (f x) (f y) ≡ 0
-    back h = rw (gap_zero x y h) (gap_self (f y))
+pub sign_kept : (k : Kernel) → Kept k neg_ℤ
+sign_kept k x y = ap (dist k) (rw (view x, view y) (simp (diff, nat_abs-⊖) (omega arith)))

@@ -8,17 +8,18 @@ use lib.ListN.{length, length-reverse}
 use lib.Seq.{slice, length-slice}
 use lib.IntN.{ℤ, nat_abs}
 use Rattle.kernel.specs.declared.Kernel.{Kernel}
-use Rattle.sample.specs.Level.{InRange, level}
+use Rattle.sample.specs.Level.{level}
 use Rattle.cutting.specs.Costs.{Agree, mirror, Within, Splittable}
 use Rattle.kernel.specs.Cost.{units_of, units, cost}
-use Rattle.kernel.specs.Kernel.{kernel, far, dist}
+use Rattle.kernel.specs.Channels.{channels, dists, level_dists, InRanges}
 use Rattle.lists.specs.Lists.{All}
 use Rattle.kernel.specs.Pairs.{pairs}
-use Rattle.kernel.proofs.Law.{Law, units_bound}
-use Rattle.kernel.proofs.Level.{units_level}
+use Rattle.kernel.proofs.Channels.{law_channels, level_apart}
+use Rattle.kernel.proofs.Law.{Law, units_nat, units_bound}
 use Rattle.kernel.proofs.Limits.{sum_le}
 use Rattle.kernel.proofs.Moves.{units_kept}
 use Rattle.kernel.proofs.Pairs.{R_reverse}
+use Rattle.kernel.proofs.Sums.{pairs_map}
 use Rattle.lists.proofs.Slices.{slice_join, slice_reverse, all_slice, slice_map}
 use Rattle.kernel.proofs.Split.{Splits, split_units}
 
@@ -60,10 +61,13 @@ module _ {S : Type 0} {k : S → S → ℤ} {d : S → S → ℕ} {a : S → ℕ
       rw (slice_join s m t l (omega arith) (omega arith) upto)
       (split_units w P h (slice s m l) (slice m t l) (all_slice P s m l p) (all_slice P m t l p))
 
--- on levels: the cost of a segment, by the distances of its levels
+-- on levels: the cost of a segment, by the distances of its days' levels
 pub cost_level :
-    (k : Kernel) (l : List ℤ) → All InRange l → (s t : ℕ) → t ≤ length l →
-    cost (kernel k) l s t ≡ units_of (pairs (λ u v. dist k (far u v)) (slice s t (map level l))) (t - s)
-cost_level k l p s t upto =
-    units_level k (slice s t l) (all_slice InRange s t l p)
-    ∙ ap₂ (λ r m. units_of (pairs (λ u v. dist k (far u v)) r) m) (sym (slice_map level s t l)) (length-slice s t l upto)
+    (ks : List Kernel) (l : List (List ℤ)) → All (InRanges ks) l → (s t : ℕ) → t ≤ length l →
+    cost (channels ks) l s t ≡ units_of (pairs (level_dists ks) (slice s t (map (map level) l))) (t - s)
+cost_level ks l p s t upto =
+    let part = slice s t l in
+    let kept = pairs_map (InRanges ks) (map level) (dists ks) (level_dists ks) (level_apart ks) part (all_slice (InRanges ks) s t l p) in
+    units_nat (law_channels ks) part
+    ∙ ap₂ units_of (sym kept) (length-slice s t l upto)
+    ∙ ap (λ (r : List (List ℕ)). units_of (pairs (level_dists ks) r) (t - s)) (sym (slice_map (map level) s t l))

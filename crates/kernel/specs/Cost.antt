@@ -3,6 +3,7 @@
 use Rattle.std.specs.Prelude.{List, [], ◌∷◌, ℕ, ◌*◌, ◌/◌, length, ℤ, pos, nat_abs, ◌+ℤ◌, ◌-ℤ◌, ◌*ℤ◌}
 use Rattle.std.proofs.Math.Seq.{slice}
 use Rattle.sample.specs.Level.{largest}
+use Rattle.kernel.specs.Limits.{most_channels}
 
 -- the sum of f over a list
 abbrev pub sum_z : {S : Type 0} → (S → ℤ) → List S → ℤ
@@ -26,9 +27,9 @@ per_one = 4096
 abbrev pub units_of : ℕ → ℕ → ℕ
 units_of r m = per_one * r / m
 
--- how many units an observation adds to a cost at most
+-- how many units an observation adds to a cost at most, of four channels
 abbrev pub most_units : ℕ
-most_units = per_one * (largest * largest)
+most_units = per_one * (most_channels * (largest * largest))
 
 -- R is never negative, so its magnitude is R.
 unfoldable pub units : {S : Type 0} → (S → S → ℤ) → List S → ℕ

@@ -1,7 +1,7 @@
 -- The three kernels, their numbers, and the distance that each gives two samples.
 -- A sample is a whole number. Assumes nothing.
 use Rattle.std.specs.Prelude.{◌≡◌, Bool, true, false, cond, ◌↔◌, ℕ, ◌+◌, ◌*◌, ◌-◌, ◌/◌, ◌<◌, eqb, length, get_or, ℤ, pos, negsuc, nat_abs, ◌+ℤ◌, ◌-ℤ◌, ◌*ℤ◌, Option, Some, None, Result, IfOk}
-use mathlib.Core.List.{List, Memᴰ}
+use mathlib.Core.List.{List}
 use Rattle.kernel.specs.declared.Kernel.{Kernel}
 use Rattle.kernel.specs.declared.Kernel.TheVariants.{Linear, Spelling, Energy}
 
@@ -61,11 +61,6 @@ unfoldable pub dist : Kernel → ℕ → ℕ
 dist Linear g = g * g
 dist Spelling g = cond (eqb g 0) 0 2
 dist Energy g = g
-
--- A recoding keeps equal equal and unequal unequal among the samples of a list: what a map does to equal
--- samples is equal anyway
-abbrev pub Recodes : (ℤ → ℤ) → List ℤ → Type 0
-Recodes f l = (x y : ℤ) → Memᴰ x l → Memᴰ y l → f x ≡ f y → x ≡ y
 
 -- "any recoding .. that keeps equal codes equal and unequal codes unequal": ys is xs, recoded
 pub record Recoded (xs ys : List ℤ) : Type 0 where

@@ -1,3 +1,4 @@
+pub mod Limits
 pub mod Kernel
 pub mod Cost
 pub mod Pairs

@@ -11,6 +11,9 @@ ghost use Rattle.kernel.specs.Cost.{units_of};
 
 use reply::Reason;
 
+// "A record then holds 1 to 4 channels", each with a kernel of its own.
+pub const MOST_CHANNELS: usize = 4;
+
 // So many units are one of R/m.
 const UNITS: u64 = 4096;
 

@@ -1,22 +1,22 @@
 -- What a record's segments cost, and its least cost and chosen cutting for each number of segments.
-use Rattle.kernel.specs.declared.Kernel.{Kernel}
-use Rattle.std.specs.Prelude.{ℕ, List, ℤ, Option, Some, None}
+use Rattle.std.specs.Prelude.{ℕ, List, ℤ}
 use Rattle.cutting.specs.Limits.{least_length}
 use Rattle.cutting.specs.Cutting.{Cutting, Choice}
 use Rattle.cutting.specs.Recurrence.{least_in, chosen_in}
-use Rattle.kernel.specs.Kernel.{kernel, named_of}
+use Rattle.kernel.specs.Channels.{channels}
 use Rattle.kernel.specs.Cost.{cost}
 use Rattle.record.specs.declared.Asked.{Asked}
+use Rattle.record.specs.declared.channels.Channels.{Channels}
+use Rattle.record.specs.Channels.{kernels_of}
 use Rattle.record.specs.Body.{samples}
 
--- the segment cost of samples: the cost in units of those from s to t - 1 under the kernel of a number
-abbrev pub cost_under : Option Kernel → List ℤ → ℕ → ℕ → ℕ
-cost_under None xs s t = 0
-cost_under (Some k) xs s t = cost (kernel k) xs s t
+-- the segment cost of days under channels: the cost in units of those from s to t - 1, by "the sum over channels" of their kernels
+abbrev pub cost_under : Channels → List (List ℤ) → ℕ → ℕ → ℕ
+cost_under ch xs = cost (channels (kernels_of ch)) xs
 
 -- the segment cost of a record
 abbrev pub cost_of : Asked → List ℕ → ℕ → ℕ → ℕ
-cost_of asked body = cost_under (named_of asked.kernel) (samples asked body)
+cost_of asked body = cost_under asked.channels (samples asked.channels body)
 
 -- how many observations a segment has at least
 abbrev pub shortest : Asked → ℕ

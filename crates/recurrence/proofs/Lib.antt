@@ -1,3 +1,4 @@
 pub mod Weight
+pub mod Growing
 pub mod Entries
 pub mod Tables

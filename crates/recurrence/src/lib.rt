@@ -1,5 +1,5 @@
-// The recurrence of source 004 over a run of levels: Algorithm 3 in pair form. One running column of tails is held through the whole run,
-// and the two lent byte tables are filled column by column.
+// The recurrence of source 004 over the levels of days: Algorithm 3 in pair form. One running column of tails is held through the whole run, in which
+// each channel's distances are added up, and the two lent byte tables are filled column by column.
 
 #![tactic(auto)]
 
@@ -8,7 +8,9 @@ ghost use Rattle.cutting.specs.Limits.{most_observations, most_segments, cost_by
 ghost use Rattle.cutting.specs.Recurrence.{Found};
 ghost use Rattle.recurrence.specs.Column.{sum_at, cell_cost, cell_start, cost_column, start_column, Sums};
 ghost use Rattle.recurrence.specs.Tables.{Lent, cost_table, start_table};
-ghost use Rattle.recurrence.specs.Weight.{most_tail, Levels, Tails, level_cost, tail_cost, Prices};
+ghost use Rattle.sample.specs.Level.{largest_level};
+ghost use Rattle.kernel.specs.Kernel.{dist, far};
+ghost use Rattle.recurrence.specs.Weight.{days_in, days_cost, most_tail, Tails, tail_cost, Prices, Observed};
 
 use cutting::{COST_BYTES, LEAST_LENGTH, MOST_OBSERVATIONS, START_BYTES};
 use kernel::Kernel;
@@ -32,22 +34,27 @@ pub struct Size {
     pub dmax: usize,
 }
 
-// The least of a row's entries plus the last segment's costs, at s from lo to hi - 1, and the earliest s that has it.
+// The least of a row's entries plus the last segment's costs, at s from lo to hi - 1, and the earliest s that has it. The loop keeps how far past lo
+// that is, its own counter: so it has one instruction less.
 fn least(costs: &[u8], row: usize, c: &[u64; MOST_OBSERVATIONS], lo: usize, hi: usize) -> Best
     requires within { (lo < hi) × (hi ≤ most_observations) × (cost_bytes * (row + hi) ≤ length costs.now) }
     requires sums { (s : ℕ) → lo ≤ s → s < hi → sum_at costs.now row c.now s < 2 ^ 64 }
     ensures { Found (sum_at costs.now row c.now) lo hi result.cost result.start }
 {
     let mut cost = table::load(costs, COST_BYTES * (row + lo), COST_BYTES) + c[lo];
-    let mut start = lo;
-    for s in lo + 1..hi {
+    let mut past = 0;
+    for i in 1..hi - lo {
+        let s = lo + i;
         let x = table::load(costs, COST_BYTES * (row + s), COST_BYTES) + c[s];
         if x < cost {
             cost = x;
-            start = s;
+            past = i;
         }
     }
-    Best { cost, start }
+    Best {
+        cost,
+        start: lo + past,
+    }
 }
 
 // What row d of column t is to hold: the marks where no cutting is.
@@ -98,17 +105,40 @@ fn column(costs: &mut [u8], starts: &mut [u8], c: &[u64; MOST_OBSERVATIONS], siz
     }
 }
 
-// Observation t joins the tails of those before it, and starts its own.
-#[tactic(auto, using(crate::proofs::Weight::tail_room))]
-fn grow(k: Kernel, u: &[u64], a: &mut [u64], t: usize)
-    requires within { (t < length u.now) × (t < length a.old) × (t < most_observations) }
-    requires levels { Levels u.now }
-    requires tails { Tails k u.now t a.old }
-    ensures { Tails k u.now (t + 1) a.new }
+// The levels of n days: each channel's kernel, and its n levels, one channel behind the other.
+#[derive(Clone, Copy, Debug)]
+pub struct Days<'a> {
+    pub kernels: &'a [Kernel],
+    pub levels: &'a [u32],
+    pub n: usize,
+    pub ghost observed: { Observed kernels.now levels.now n },
+}
+
+// Observation t joins the tails of those before it, by the levels of one channel. One pass a channel: with one channel that is the whole of it.
+#[tactic(auto, using(crate::proofs::Weight::joined_room))]
+fn join(k: Kernel, u: &[u32], a: &mut [u64], t: usize)
+    requires within { (t < length u.now) × (t < length a.old) }
+    requires levels { (j : ℕ) → j < length u.now → get_or u.now j 0 ≤ largest_level }
+    requires room { (s : ℕ) → s < t → get_or a.old s 0 ≤ most_tail }
+    ensures long { length a.new ≡ length a.old }
+    ensures joined { (s : ℕ) → s < t → get_or a.new s 0 ≡ get_or a.old s 0 + dist k (far (get_or u.now s 0) (get_or u.now t 0)) }
 {
-    let y = u[t];
+    let y = u64::from(u[t]);
     for s in 0..t {
-        a[s] += kernel::distance(k, u[s], y);
+        a[s] += kernel::distance(k, u64::from(u[s]), y);
+    }
+}
+
+// Observation t joins the tails of those before it, channel by channel, and starts its own.
+fn grow(days: &Days, a: &mut [u64], t: usize)
+    requires within { (t < days.now.n) × (t < length a.old) }
+    requires tails { Tails days.now.kernels.now (days_in days.now.n (length days.now.kernels.now) days.now.levels.now) t a.old }
+    ensures long { length a.new ≡ length a.old }
+    ensures tails { Tails days.now.kernels.now (days_in days.now.n (length days.now.kernels.now) days.now.levels.now) (t + 1) a.new }
+{
+    let n = days.n;
+    for c in 0..days.kernels.len() {
+        join(days.kernels[c], &days.levels[n * c..n * c + n], a, t);
     }
     a[t] = 0;
 }
@@ -118,6 +148,7 @@ fn grow(k: Kernel, u: &[u64], a: &mut [u64], t: usize)
 fn price(a: &[u64], c: &mut [u64], t: usize)
     requires within { (t ≤ length a.now) × (t ≤ length c.old) × (t ≤ most_observations) }
     requires tails { (s : ℕ) → s < t → get_or a.now s 0 ≤ most_tail }
+    requires costs { (s : ℕ) → s < t → tail_cost a.now s t < 2 ^ 63 }
     ensures { Prices (tail_cost a.now) t c.new }
 {
     let mut r: u64 = 0;
@@ -128,20 +159,19 @@ fn price(a: &[u64], c: &mut [u64], t: usize)
 }
 
 // Fills both tables for every count of segments to dmax: two slices, as C lends them.
-#[tactic(auto, using(table::proofs::Fill::fill_none, crate::proofs::Weight::cost_small, crate::proofs::Weight::tail_small))]
-pub fn fill_tables(k: Kernel, u: &[u64], dmax: usize, costs: &mut [u8], starts: &mut [u8])
-    requires lent { Lent (length u.now) dmax costs.old starts.old }
-    requires levels { Levels u.now }
-    ensures costs_after { costs.new ≡ cost_table (level_cost k u.now) (length u.now) dmax costs.old }
-    ensures starts_after { starts.new ≡ start_table (level_cost k u.now) (length u.now) dmax starts.old }
+#[tactic(auto, using(table::proofs::Fill::fill_none))]
+pub fn fill_tables(days: &Days, dmax: usize, costs: &mut [u8], starts: &mut [u8])
+    requires lent { Lent days.now.n dmax costs.old starts.old }
+    ensures costs_after { costs.new ≡ cost_table (days_cost days.now.kernels.now days.now.levels.now days.now.n) days.now.n dmax costs.old }
+    ensures starts_after { starts.new ≡ start_table (days_cost days.now.kernels.now days.now.levels.now days.now.n) days.now.n dmax starts.old }
 {
-    let n = u.len();
+    let n = days.n;
     let size = Size { n, dmax };
     let mut a = [0u64; MOST_OBSERVATIONS];
     let mut c = [0u64; MOST_OBSERVATIONS];
     for t in 0..n {
         column(costs, starts, &c, size, t);
-        grow(k, u, &mut a, t);
+        grow(days, &mut a, t);
         price(&a, &mut c, t + 1);
     }
     column(costs, starts, &c, size, n);

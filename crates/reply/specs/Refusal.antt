@@ -3,7 +3,7 @@ use Rattle.std.specs.Prelude.{ℕ, Result, Ok, Err}
 use Rattle.reply.specs.declared.Refusal.{Refusal}
 use Rattle.reply.specs.declared.Reply.{Reply}
 use Rattle.reply.specs.declared.Reason.{Reason}
-use Rattle.reply.specs.declared.Reason.TheVariants.{NoObservations, TooManyObservations, ObservationCutShort, SegmentsOutOfRange, SegmentsExceedN, UnknownKernel, LentTooShort, DayNotAbove, ShareNotFinite, SampleOutOfRange, ShareNotWhole, TotalTooLarge, NoWalk, NoStretch, FileTooShort, RecordCount, BodyMisplaced, TermNotAbove, UnknownKind, BytesLeftOver, FileTooLong, OutputTooShort, BodyPastEnd}
+use Rattle.reply.specs.declared.Reason.TheVariants.{NoObservations, TooManyObservations, ObservationCutShort, SegmentsOutOfRange, SegmentsExceedN, UnknownKernel, LentTooShort, DayNotAbove, ShareNotFinite, SampleOutOfRange, ShareNotWhole, TotalTooLarge, NoWalk, NoStretch, FileTooShort, RecordCount, BodyMisplaced, TermNotAbove, UnknownKind, BytesLeftOver, FileTooLong, OutputTooShort, BodyPastEnd, ChannelCount}
 use Rattle.reply.specs.Reply.{refusal_at, done}
 
 -- "| code | when |"
@@ -31,6 +31,7 @@ number_of BytesLeftOver = 25
 number_of FileTooLong = 26
 number_of OutputTooShort = 27
 number_of BodyPastEnd = 28
+number_of ChannelCount = 29
 
 -- the number of what a call tells from numbers and lengths alone: 0 where there is no reason to refuse
 abbrev pub code_in : {T : Type 0} → Result T Reason → ℕ

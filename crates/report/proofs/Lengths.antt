@@ -8,6 +8,7 @@ use Rattle.cutting.specs.Limits.{most_segments}
 use Rattle.reply.specs.declared.Reply.{Reply}
 use Rattle.text.specs.Text.{decimal}
 use Rattle.text.proofs.Pieces.{decimal_length}
+use Rattle.record.specs.declared.channels.Channels.{Channels}
 use Rattle.segment.specs.Date.{date_in}
 use Rattle.report.specs.declared.line.Line.{Line}
 use Rattle.report.specs.Limits.{reply_length, head_length, file_line_length, cut_length, line_length}
@@ -36,22 +37,22 @@ file_length_lem r =
     (both at_word (decimal r.position ++ (10 ∷ [])) 4 21 (omega arith)
     (both (decimal r.position) (10 ∷ []) 20 1 (decimal_length r.position) (omega arith))))
 
-pub cut_length_lem : (body : List ℕ) (s : ℕ) → length (cut_text body s) ≤ cut_length
-cut_length_lem body s =
-    both (32 ∷ []) (decimal s ++ ((58 ∷ []) ++ decimal (date_in body s))) 1 41 (omega arith)
-    (both (decimal s) ((58 ∷ []) ++ decimal (date_in body s)) 20 21 (decimal_length s)
-    (both (58 ∷ []) (decimal (date_in body s)) 1 20 (omega arith) (decimal_length (date_in body s))))
+pub cut_length_lem : (ch : Channels) (body : List ℕ) (s : ℕ) → length (cut_text ch body s) ≤ cut_length
+cut_length_lem ch body s =
+    both (32 ∷ []) (decimal s ++ ((58 ∷ []) ++ decimal (date_in ch body s))) 1 41 (omega arith)
+    (both (decimal s) ((58 ∷ []) ++ decimal (date_in ch body s)) 20 21 (decimal_length s)
+    (both (58 ∷ []) (decimal (date_in ch body s)) 1 20 (omega arith) (decimal_length (date_in ch body s))))
 
-pub cuts_length_lem : (body c : List ℕ) → length (cuts_text body c) ≤ cut_length * length c
-cuts_length_lem body [] = omega arith
-cuts_length_lem body (s ∷ c) =
-    omega (arith, both (cut_text body s) (cuts_text body c) cut_length (cut_length * length c) (cut_length_lem body s) (cuts_length_lem body c))
+pub cuts_length_lem : (ch : Channels) (body c : List ℕ) → length (cuts_text ch body c) ≤ cut_length * length c
+cuts_length_lem ch body [] = omega arith
+cuts_length_lem ch body (s ∷ c) =
+    omega (arith, both (cut_text ch body s) (cuts_text ch body c) cut_length (cut_length * length c) (cut_length_lem ch body s) (cuts_length_lem ch body c))
 
-pub line_length_lem : (body : List ℕ) (l : Line) → l.d ≤ most_segments → most_segments ≤ length l.starts → length (line_text body l) ≤ line_length
-line_length_lem body l h k =
+pub line_length_lem : (ch : Channels) (body : List ℕ) (l : Line) → l.d ≤ most_segments → most_segments ≤ length l.starts → length (line_text ch body l) ≤ line_length
+line_length_lem ch body l h k =
     let c = slice 1 l.d l.starts in
     let few : length c ≤ 11 = omega (arith, length-slice 1 l.d l.starts (omega arith)) in
-    both (decimal l.d) ((32 ∷ []) ++ (decimal l.cost ++ (cuts_text body c ++ (10 ∷ [])))) 20 484 (decimal_length l.d)
-    (both (32 ∷ []) (decimal l.cost ++ (cuts_text body c ++ (10 ∷ []))) 1 483 (omega arith)
-    (both (decimal l.cost) (cuts_text body c ++ (10 ∷ [])) 20 463 (decimal_length l.cost)
-    (both (cuts_text body c) (10 ∷ []) 462 1 (omega (arith, cuts_length_lem body c)) (omega arith))))
+    both (decimal l.d) ((32 ∷ []) ++ (decimal l.cost ++ (cuts_text ch body c ++ (10 ∷ [])))) 20 484 (decimal_length l.d)
+    (both (32 ∷ []) (decimal l.cost ++ (cuts_text ch body c ++ (10 ∷ []))) 1 483 (omega arith)
+    (both (decimal l.cost) (cuts_text ch body c ++ (10 ∷ [])) 20 463 (decimal_length l.cost)
+    (both (cuts_text ch body c) (10 ∷ []) 462 1 (omega (arith, cuts_length_lem ch body c)) (omega arith))))

@@ -15,6 +15,7 @@ use Rattle.reply.specs.declared.Reply.{Reply}
 use Rattle.reply.specs.Reply.{if_done}
 use Rattle.reply.specs.Tries.{first_from, first_of}
 use Rattle.lists.specs.Lists.{values_of}
+use Rattle.record.specs.Channels.{pairs_from}
 use Rattle.record.specs.Body.{observations, day_at, judged_at}
 use Rattle.record.specs.Cost.{cost_of, shortest, chosen_of}
 use Rattle.segment.specs.Date.{date_in, days_of, dated_of, DateAccepted}
@@ -41,7 +42,8 @@ use Rattle.report.proofs.Lengths.{file_length_lem}
 use Rattle.report.proofs.Solved as solved
 
 -- ---- one term
--- "In two accepted files that hold the same entry fields (offset aside) and body for a term, that term's lines are equal."
+-- "In two accepted files that hold the same entry fields (offset aside) and body for a term, that term's lines are equal.", be the files of one form or
+-- of two.
 pub same_lines :
     (f g : List ℕ) → (read_reply f).code ≡ 0 → (read_reply g).code ≡ 0 → (i j : ℕ) → i < count_in f → j < count_in g →
     (item_at f i).entry ≡ (item_at g j).entry → (item_at f i).body ≡ (item_at g j).body → item_text (item_at f i) ≡ item_text (item_at g j)
@@ -60,18 +62,20 @@ refused_line x h =
 module _ (x : Item) (accepted : (term_reply x.entry.asked x.body).code ≡ 0) where
   pub cut_dated :
       (D i : ℕ) → D ≤ x.entry.asked.dmax → 1 ≤ i → i < D → (s : ℕ) →
-      s ≡ get_or (chosen_of x.entry.asked x.body D (observations x.body)) i 0 →
-      DateAccepted (days_of x.body) s × (date_in x.body s ≡ (dated_of (days_of x.body) s).day.0)
+      s ≡ get_or (chosen_of x.entry.asked x.body D (observations x.entry.asked.channels x.body)) i 0 →
+      DateAccepted (days_of x.entry.asked.channels x.body) s
+      × (date_in x.entry.asked.channels x.body s ≡ (dated_of (days_of x.entry.asked.channels x.body) s).day.0)
   cut_dated D i few later below s e =
       let a = (solve_accepted x.entry.asked x.body cost_room start_room).0 accepted in
-      let n = observations x.body in
+      let ch = x.entry.asked.channels in
+      let n = observations ch x.body in
       let w = cost_of x.entry.asked x.body in
       let l = shortest x.entry.asked in
       let fits : 0 + D * l ≤ n = omega (arith, a.fit.segments.fits_days) in
       let cutting = chosen_cutting w l 0 D n (omega arith) fits in
       let inside = starts_inside l 0 D n _ (omega arith) cutting i later below in (
-        body_dated x.body a.fit.count a.rising s (omega (arith, e, inside.0)) (omega (arith, e, inside.1)),
-        date_of_body x.body a.fit.count a.rising s,
+        body_dated ch x.body a.fit.count a.rising s (omega (arith, e, inside.0)) (omega (arith, e, inside.1)),
+        date_of_body ch x.body a.fit.count a.rising s,
       )
 
 -- How large a buffer they need at most.
@@ -141,12 +145,12 @@ printed_loop f h =
 
 -- "For 50 bytes holding one record .. it prints exactly" the three lines: by computation, from the file's bytes.
 pub printed_example : printed example ≡ example_text
-unfolding printed text_of lines_of cut_lines digits date_in solve_reply some least last place earliest walk kernel named_of A B R units judged_count if_done first_of first_from day_at judged_at values_of read_tries due_in items_of paired entries_from entry_at field size_of num le
+unfolding printed text_of lines_of cut_lines digits date_in solve_reply some least last place earliest walk kernel named_of A B R units judged_count if_done first_of first_from pairs_from day_at judged_at values_of read_tries due_in items_of paired entries_from entry_at field size_of num le
 printed_example = refl
 
 -- The example with another offset, and no bytes at all: refused files, with a position and without one.
 pub printed_misplaced : printed (set example 10 15) ≡ misplaced_text
-unfolding printed digits if_done first_of first_from read_tries due_in entry_at field size_of num le
+unfolding printed digits if_done first_of first_from read_tries due_in entry_at field size_of pairs_from num le
 printed_misplaced = refl
 
 pub printed_empty : printed [] ≡ empty_text

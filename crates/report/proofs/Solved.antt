@@ -58,7 +58,7 @@ module _ (term : ℕ) (asked : Asked) (body costs starts : List ℕ) (costs-long
 module _ (asked : Asked) (body : List ℕ) where
   twelve : (k : ℕ) → suc k ≤ most_segments → most_segments ≤ length (chosen_line asked body (suc k)).starts
   twelve k h =
-      let n = observations body in
+      let n = observations asked.channels body in
       let w = cost_of asked body in
       let back : suc k - 1 ≡ k = omega arith in
       let cuts : length (chosen w least_length 0 (suc k - 1) n) ≡ k = chosen_length w least_length 0 (suc k - 1) n ∙ back in
@@ -76,9 +76,9 @@ module _ (asked : Asked) (body : List ℕ) where
   cut_lines_length (suc k) h =
       omega (
         arith,
-        length-append (cut_lines asked body k) (line_text body (chosen_line asked body (suc k))),
+        length-append (cut_lines asked body k) (line_text asked.channels body (chosen_line asked body (suc k))),
         cut_lines_length k (omega arith),
-        line_length_lem body (chosen_line asked body (suc k)) h (twelve k h),
+        line_length_lem asked.channels body (chosen_line asked body (suc k)) h (twelve k h),
       )
 
   either : (d : ℕ) (b : Bool) → (b ≡ true → d ≤ most_segments) → length (cond b (cut_lines asked body d) []) ≤ line_length * most_segments

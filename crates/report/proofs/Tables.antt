@@ -12,12 +12,16 @@ use Rattle.cutting.specs.Limits.{most_segments, cost_bytes}
 use Rattle.reply.specs.Reply.{if_done}
 use Rattle.record.specs.declared.Asked.{Asked}
 use Rattle.record.specs.Body.{observations}
-use Rattle.record.specs.Accepted.{Fit}
+use Rattle.record.specs.Channels.{kernel_in}
+use Rattle.record.specs.Accepted.{Fit, Numbered}
 use Rattle.record.specs.Cost.{cost_of, least_of}
-use Rattle.kernel.proofs.Number.{number_named}
+use Rattle.std.specs.Prelude.{Some}
+use Rattle.kernel.specs.declared.Kernel.{Kernel}
+use Rattle.kernel.specs.Kernel.{named_of}
+use Rattle.kernel.proofs.Number.{number_named, known_number}
 use Rattle.engine.specs.Solve.{costs_left, starts_left}
 use Rattle.engine.specs.Accepted.{Accepted}
-use Rattle.engine.proofs.Accepted.{kernel_known, starts_space}
+use Rattle.engine.proofs.Accepted.{starts_space}
 use Rattle.engine.proofs.Entries.{starts_solved, cost_is}
 use Rattle.walk.specs.declared.Sought.{Sought}
 use Rattle.walk.specs.declared.Answer.{Answer}
@@ -47,14 +51,21 @@ answer_length sought starts room =
 -- ---- one line more
 pub lines_more :
     (asked : Asked) (body costs starts : List ℕ) (k : ℕ) (l : Line) → l ≡ line_at asked body costs starts k →
-    table_lines asked body costs starts k ++ line_text body l ≡ table_lines asked body costs starts (k + 1)
+    table_lines asked body costs starts k ++ line_text asked.channels body l ≡ table_lines asked body costs starts (k + 1)
 unfolding table_lines
 lines_more asked body costs starts k l e =
-    ap (λ (x : Line). table_lines asked body costs starts k ++ line_text body x) e ∙ sym (ap (table_lines asked body costs starts) (add-one k))
+    ap (λ (x : Line). table_lines asked body costs starts k ++ line_text asked.channels body x) e ∙ sym (ap (table_lines asked body costs starts) (add-one k))
 
 -- ---- off solved tables
 module _ (asked : Asked) (body costs starts : List ℕ) (a : Accepted asked body (length costs) (length starts)) where
-  fit : (k : ℕ) → k < asked.dmax → Fit (observations body) (k + 1) asked.kernel
+  -- the kernel of the first channel
+  first_numbered : Numbered (kernel_in asked.channels 0)
+  first_numbered = a.kernels 0 (omega (arith, a.lent.channeled.some_channels))
+
+  first_kernel : (k : Kernel) × (named_of (kernel_in asked.channels 0) ≡ Some k)
+  first_kernel = known_number (kernel_in asked.channels 0) first_numbered.some_kernel first_numbered.known_kernel
+
+  fit : (k : ℕ) → k < asked.dmax → Fit (observations asked.channels body) (k + 1)
   fit k h =
       let f = a.fit in
       record {
@@ -64,26 +75,25 @@ module _ (asked : Asked) (body costs starts : List ℕ) (a : Accepted asked body
           few_segments = omega (arith, f.segments.few_segments);
           fits_days = omega (arith, f.segments.fits_days);
         };
-        kernel = f.kernel;
       }
 
   -- the line of k + 1 segments says the least cost and the chosen cutting
   same_line : (k : ℕ) → k < asked.dmax →
       line_at asked body (costs_left asked body costs starts) (starts_left asked body costs starts) k ≡ chosen_line asked body (k + 1)
   same_line k h =
-      let n = observations body in
+      let n = observations asked.channels body in
       let f = fit k h in
-      let known = kernel_known a in
+      let known = first_kernel in
       let back : k + 1 - 1 ≡ k = omega arith in
       let cost : entry cost_bytes (costs_left asked body costs starts) (cell n k n) ≡ least_of asked body (k + 1) n =
       ap (λ (j : ℕ). entry cost_bytes (costs_left asked body costs starts) (cell n j n)) (sym back)
       ∙ cost_is asked body costs starts a (k + 1) n (omega arith) (omega arith) (omega arith) f.segments.fits_days
       in
       let read =
-      ap (λ (ys : List ℕ). (answer_of (seeking n (k + 1) asked.kernel) ys answer_bytes).starts) (starts_solved asked body costs starts a)
+      ap (λ (ys : List ℕ). (answer_of (seeking n (k + 1) (kernel_in asked.channels 0)) ys answer_bytes).starts) (starts_solved asked body costs starts a)
       ∙ ap (λ (x : Answer). x.starts)
-      (reading (cost_of asked body) n asked.dmax starts (starts_space a) a.fit.segments.few_segments (k + 1) asked.kernel f (omega arith)
-      answer_bytes (omega arith) known.0 (number_named asked.kernel known.0 known.1))
+      (reading (cost_of asked body) n asked.dmax starts (starts_space a) a.fit.segments.few_segments (k + 1) (kernel_in asked.channels 0) f first_numbered (omega arith)
+      answer_bytes (omega arith) known.0 (number_named (kernel_in asked.channels 0) known.0 known.1))
       in
       λ i. record { d = k + 1; cost = cost i; starts = read i }
 
@@ -93,4 +103,4 @@ module _ (asked : Asked) (body costs starts : List ℕ) (a : Accepted asked body
   solved_lines zero h = refl
   solved_lines (suc k) h =
       ap₂ ◌++◌ (solved_lines k (omega arith))
-      (ap (line_text body) (same_line k (omega arith)) ∙ ap (λ (j : ℕ). line_text body (chosen_line asked body j)) (add-one k))
+      (ap (line_text asked.channels body) (same_line k (omega arith)) ∙ ap (λ (j : ℕ). line_text asked.channels body (chosen_line asked body j)) (add-one k))

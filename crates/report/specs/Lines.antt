@@ -5,6 +5,7 @@ use Rattle.cutting.specs.Limits.{most_segments}
 use Rattle.reply.specs.declared.Reply.{Reply}
 use Rattle.reply.specs.Reply.{if_done}
 use Rattle.record.specs.declared.Asked.{Asked}
+use Rattle.record.specs.declared.channels.Channels.{Channels}
 use Rattle.record.specs.Body.{observations}
 use Rattle.record.specs.Cost.{least_of, chosen_of}
 use Rattle.segment.specs.Date.{date_in}
@@ -46,30 +47,30 @@ file_text r = file_word ++ (reply_text r ++ (at_word ++ (decimal r.position ++ (
 abbrev pub pair_text : ℕ → ℕ → List ℕ
 pair_text index date = (32 ∷ []) ++ (decimal index ++ ((58 ∷ []) ++ decimal date))
 
-abbrev pub cut_text : List ℕ → ℕ → List ℕ
-cut_text body s = pair_text s (date_in body s)
+abbrev pub cut_text : Channels → List ℕ → ℕ → List ℕ
+cut_text ch body s = pair_text s (date_in ch body s)
 
-abbrev pub cuts_text : List ℕ → List ℕ → List ℕ
-cuts_text body [] = []
-cuts_text body (s ∷ c) = cut_text body s ++ cuts_text body c
+abbrev pub cuts_text : Channels → List ℕ → List ℕ → List ℕ
+cuts_text ch body [] = []
+cuts_text ch body (s ∷ c) = cut_text ch body s ++ cuts_text ch body c
 
 -- "Each line after is D, the cost in units, then" the cuts: the starts of all segments but the first
-abbrev pub line_text : List ℕ → Line → List ℕ
-line_text body l =
-    decimal l.d ++ ((32 ∷ []) ++ (decimal l.cost ++ (cuts_text body (slice 1 l.d l.starts) ++ (10 ∷ []))))
+abbrev pub line_text : Channels → List ℕ → Line → List ℕ
+line_text ch body l =
+    decimal l.d ++ ((32 ∷ []) ++ (decimal l.cost ++ (cuts_text ch body (slice 1 l.d l.starts) ++ (10 ∷ []))))
 
 -- what the line for D segments says: the least cost, and the chosen cutting
 abbrev pub chosen_line : Asked → List ℕ → ℕ → Line
 chosen_line asked body D = record {
   d = D;
-  cost = least_of asked body D (observations body);
-  starts = chosen_of asked body D (observations body) ++ replicate (most_segments - D) 0;
+  cost = least_of asked body D (observations asked.channels body);
+  starts = chosen_of asked body D (observations asked.channels body) ++ replicate (most_segments - D) 0;
 }
 
 -- the lines for D = 1 to k
 unfoldable pub cut_lines : Asked → List ℕ → ℕ → List ℕ
 cut_lines asked body zero = []
-cut_lines asked body (suc k) = cut_lines asked body k ++ line_text body (chosen_line asked body (suc k))
+cut_lines asked body (suc k) = cut_lines asked body k ++ line_text asked.channels body (chosen_line asked body (suc k))
 
 -- the reply to a term's record, with the largest tables
 abbrev pub term_reply : Asked → List ℕ → Reply

@@ -1,11 +1,12 @@
 // The lines, piece by piece.
 ghost use Rattle.std.specs.Prelude.{◌≡◌, ◌+◌, ◌*◌, ◌^◌, ◌≤◌, ◌<◌, length};
 ghost use Rattle.cutting.specs.Limits.{most_segments};
+ghost use Rattle.kernel.specs.Limits.{most_channels};
 ghost use Rattle.text.specs.Text.{Grown};
 ghost use Rattle.report.specs.Limits.{farthest, reply_length, head_length, file_line_length, cut_length, line_length};
 ghost use Rattle.report.specs.Lines.{reply_text, head_text, file_text, pair_text, cuts_text, line_text};
 
-use record::{Day, Index};
+use record::{Day, Index, Record};
 use reply::Reply;
 use text::Text;
 
@@ -66,27 +67,29 @@ fn put_cut(text: &mut Text, index: Index, date: Day)
 
 // The cuts of a line, by the first index of each segment but the first.
 #[tactic(auto, using(text::proofs::Pieces::grown_nothing))]
-fn put_cuts(text: &mut Text, body: &[u8], starts: &[u64])
-    requires { text.old.end + cut_length * length starts.now < 2 ^ 32 }
-    ensures put { Grown text.old (cuts_text body.now starts.now) text.new }
+fn put_cuts(text: &mut Text, record: &Record, starts: &[u64])
+    requires room { text.old.end + cut_length * length starts.now < 2 ^ 32 }
+    requires channels { record.now.asked.channels.count ≤ most_channels }
+    ensures put { Grown text.old (cuts_text record.now.asked.channels record.now.body.now starts.now) text.new }
     ensures upper_bound { text.new.end ≤ text.old.end + cut_length * length starts.now }
 {
     for start in starts {
         let s = Index(*start as usize);
-        let date = segment::date_at(body, s);
+        let date = segment::date_at(record, s);
         put_cut(text, s, date);
     }
 }
 
 // One line: the segment count, the cost in units, and the cuts.
-pub fn put_line(text: &mut Text, body: &[u8], line: Line)
-    requires { (text.old.end + line_length < farthest) × (1 ≤ line.d) × (line.d ≤ most_segments) × (length line.starts ≡ most_segments) }
-    ensures put { Grown text.old (line_text body.now line) text.new }
+pub fn put_line(text: &mut Text, record: &Record, line: Line)
+    requires channels { record.now.asked.channels.count ≤ most_channels }
+    requires line { (text.old.end + line_length < farthest) × (1 ≤ line.d) × (line.d ≤ most_segments) × (length line.starts ≡ most_segments) }
+    ensures put { Grown text.old (line_text record.now.asked.channels record.now.body.now line) text.new }
     ensures upper_bound { text.new.end ≤ text.old.end + line_length }
 {
     text.number(line.d as u64);
     text.byte(b' ');
     text.number(line.cost);
-    put_cuts(text, body, &line.starts[1..line.d]);
+    put_cuts(text, record, &line.starts[1..line.d]);
     text.byte(b'\n');
 }

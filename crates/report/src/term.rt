@@ -46,7 +46,7 @@ fn line_at(record: &Record, costs: &[u8], starts: &[u8], k: usize) -> Line
     let sought = Sought {
         n,
         d,
-        kernel: record.asked.kernel,
+        kernel: record.asked.channels.kernel(0),
     };
     let a = walk::read_cuts(sought, starts);
     let starts = a.starts;
@@ -66,7 +66,7 @@ fn put_lines(text: &mut Text, term: u64, record: &Record, costs: &mut [u8], star
     }
     for k in 0..record.asked.dmax {
         let l = line_at(record, costs, starts, k);
-        line::put_line(text, record.body, l);
+        line::put_line(text, record, l);
     }
 }
 

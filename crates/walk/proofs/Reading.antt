@@ -25,7 +25,7 @@ use Rattle.reply.specs.Reply.{done}
 use Rattle.reply.specs.Tries.{first_of}
 use Rattle.reply.proofs.First.{if_done_lem}
 use Rattle.reply.proofs.Exactly.{code_of, clear_done}
-use Rattle.record.specs.Accepted.{Fit}
+use Rattle.record.specs.Accepted.{Fit, Numbered}
 use Rattle.walk.specs.declared.Answer.{Answer}
 use Rattle.walk.specs.Walk.{start_in, Walks, zeros, met}
 use Rattle.walk.specs.Answer.{seeking, answer_bytes, cuts_tries, cuts_reply, answer_of, row_of, out_left}
@@ -77,7 +77,7 @@ module _ (w : ℕ → ℕ → ℕ) (m n : ℕ) (at : ℕ → ℕ → ℕ)
 
 -- ---- the table for up to dmax segments of n observations, read for D of them
 module _ (w : ℕ → ℕ → ℕ) (n dmax : ℕ) (ys : List ℕ) (space : start_bytes * (dmax * (n + 1)) ≤ length ys) (small : dmax ≤ most_segments)
-    (D kernel : ℕ) (fit : Fit n D kernel) (asked : D ≤ dmax) where
+    (D kernel : ℕ) (fit : Fit n D) (numbered : Numbered kernel) (asked : D ≤ dmax) where
   abbrev table : List ℕ
   table = start_table w n dmax ys
 
@@ -92,6 +92,7 @@ module _ (w : ℕ → ℕ → ℕ) (n dmax : ℕ) (ys : List ℕ) (space : start
       let kept = (kept_beyond start_bytes _ _ _ ys table refl).same_length in
       record {
         fit = fit;
+        kernel = numbered;
         table_room = omega (arith, kept, mul-le-mul_right (n + 1) asked);
         answer_room = h;
         walk = walks_through w dmax n (start_in table n) holds (D - 1) n (omega (arith, s.some_segments)) (omega (arith, s.some_segments, s.fits_days)) (omega arith);

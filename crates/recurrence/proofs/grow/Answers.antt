@@ -1,11 +1,16 @@
--- `recurrence::grow` meets its contract: what a turn makes of tail s is the tail with observation t.
-use Rattle.std.proofs.Common.{arith}
-use Rattle.std.proofs.lemmas.Grind.{get_or-set_at}
-use Rattle.std.proofs.lemmas.List.{get_or-set_other}
-use Rattle.recurrence.proofs.Weight.{tail_more}
+-- `recurrence::grow` meets its contract: a turn joins observation t by one channel's levels.
+use Rattle.std.proofs.Common.{refl, arith}
+use Rattle.recurrence.proofs.Growing.{part_at, growing_room, growing_more, growing_done}
 use Rattle.recurrence.proofs.grow.Goals as goal
 
-pub loop-s-preserved : goal.loop-s-preserved
-loop-s-preserved c =
-    let more = tail_more c.args.k c.args.u.now c.loop-s.s c.args.t (omega arith) (omega arith) in
-    grind (arith, get_or-set_at, get_or-set_other, more)
+pub join-requires-clause-room : goal.join-requires-clause-room
+join-requires-clause-room c = growing_room c.args.days.now.observed _ _ _ _ c.loop-c.invariant c.requires.within.0
+
+pub loop-c-preserved : goal.loop-c-preserved
+loop-c-preserved c =
+    let o = c.args.days.now.observed in
+    growing_more o _ _ _ _ c.loop-c.invariant c.requires.within.0 (omega arith) _ _ _ refl (part_at o _ _ (omega arith) refl) c.join.ensures.long c.join.ensures.joined
+
+pub returns-clause-tails : goal.returns-clause-tails
+returns-clause-tails c =
+    growing_done c.args.days.now.observed _ _ _ _ c.loop-c.invariant c.requires.within.0 (omega arith) c.requires.within.1

@@ -1,7 +1,8 @@
--- `recurrence::least` meets its contract. The loop's invariant: start is the earliest least of the starts tried, lo .. s - 1.
+-- `recurrence::least` meets its contract. The loop's invariant: lo + past is the earliest least of the starts tried, lo .. lo + i - 1.
+use Rattle.std.specs.Prelude.{◌+◌, ◌<◌}
 use Rattle.cutting.specs.Recurrence.{Found}
 use Rattle.recurrence.specs.Column.{sum_at}
 use Rattle.recurrence.proofs.least.Given as goal
 
-abbrev pub invariant-loop-s : goal.invariant-loop-s
-invariant-loop-s l = Found (sum_at l.costs l.row l.c) l.lo l.s l.cost l.start
+abbrev pub invariant-loop-i : goal.invariant-loop-i
+invariant-loop-i l = (l.past < l.i) × Found (sum_at l.costs l.row l.c) l.lo (l.lo + l.i) l.cost (l.lo + l.past)

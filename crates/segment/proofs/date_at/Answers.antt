@@ -8,12 +8,12 @@ pub returns-then-i-eq0 : goal.returns-then-i-eq0
 unfolding date_in
 returns-then-i-eq0 c = rw (eq-eqb _ _ c.if-i-eq0.true)
 
-pub returns-then-body-i : goal.returns-then-body-i
+pub returns-then-observations-i : goal.returns-then-observations-i
 unfolding date_in
-returns-then-body-i c = rw (ne_eqb _ _ c.if-i-eq0.false, le-leb _ _ c.if-body-i.true)
+returns-then-observations-i c = rw (ne_eqb _ _ c.if-i-eq0.false, le-leb _ _ (rw c.observations.ensures at c.if-observations-i.true))
 
 pub returns : goal.returns
 unfolding date_in
 returns c =
-    rw (ne_eqb _ _ c.if-i-eq0.false, lt-leb _ _ c.if-body-i.false)
+    rw (ne_eqb _ _ c.if-i-eq0.false, lt-leb _ _ (rw c.observations.ensures at c.if-observations-i.false))
     (c.midpoint.ensures ∙ ap₂ midpoint_of c.day_at-before.ensures c.day_at-first.ensures)

@@ -1,18 +1,15 @@
 -- `record::Record::judge_samples` meets its contract. The loop's invariant: what is left to try from i on gives the reply.
--- Assumes nothing.
-use Rattle.std.proofs.Common.{◌∙◌, arith}
-use Rattle.reply.proofs.Answers.{each_refused, each_clear, each_end}
-use Rattle.record.proofs.Samples.{level_given, level_clear}
+use Rattle.std.proofs.Common.{refl, arith}
+use Rattle.reply.proofs.Answers.{some_number, refusal_handed, each_stop, each_on, each_end}
 use Rattle.record.proofs.Record.judge_samples.Goals as goal
 
-pub returns-in-Err : goal.returns-in-Err
-returns-in-Err c =
-    c.at.ensures
-    ∙ each_refused _ _ _ _ c.loop-i.invariant (omega arith) c.from.result _ _
-    (rw c.from.ensures (level_given _ c.loop-i.i _ c.in-Err.ensures))
+pub returns-in_err-judge_channels : goal.returns-in_err-judge_channels
+returns-in_err-judge_channels c =
+    refusal_handed _ _ _ c.from_residual.ensures.1
+    (each_stop _ _ _ _ c.loop-i.invariant (omega arith) _ c.in_err-judge_channels.ensures (some_number _))
 
 pub loop-i-preserved : goal.loop-i-preserved
-loop-i-preserved c = each_clear _ _ _ _ c.loop-i.invariant (omega arith) (level_clear _ c.loop-i.i _ c.in_default.ensures)
+loop-i-preserved c = each_on _ _ _ _ c.loop-i.invariant (omega arith) _ c.in_ok-judge_channels.ensures refl
 
 pub returns : goal.returns
 returns c = each_end _ _ _ _ c.loop-i.invariant (omega arith)

@@ -9,6 +9,6 @@ pub loop-start-preserved : goal.loop-start-preserved
 loop-start-preserved c =
     let cut = retell (ap (pair_text _) c.date_at-date.ensures) c.put_cut.ensures.put in
     record {
-      put = retell (cuts_more c.args.body.now c.args.starts.now c.loop-start.start-index c.loop-start-test.true) (grown c.loop-start.invariant.put cut);
+      put = retell (cuts_more c.args.record.now.asked.channels c.args.record.now.body.now c.args.starts.now c.loop-start.start-index c.loop-start-test.true) (grown c.loop-start.invariant.put cut);
       upper_bound = omega arith;
     }

@@ -7,6 +7,6 @@ use Rattle.report.proofs.line.put_cuts.Given as goal
 
 abbrev pub invariant-loop-start : goal.invariant-loop-start
 invariant-loop-start l = record {
-  put : Grown l.initial.text (cuts_text l.body (take l.start-index l.starts)) l.text;
+  put : Grown l.initial.text (cuts_text l.record.asked.channels l.record.body.now (take l.start-index l.starts)) l.text;
   upper_bound : l.text.end ≤ l.initial.text.end + cut_length * l.start-index;
 }

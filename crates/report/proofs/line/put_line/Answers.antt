@@ -7,5 +7,5 @@ use Rattle.report.proofs.line.put_line.Goals as goal
 
 pub returns-clause-put : goal.returns-clause-put
 returns-clause-put c =
-    let cuts = retell (ap (cuts_text c.args.body.now) (but_first c.args.line.starts c.args.line.d c.requires.1)) c.put_cuts.ensures.put in
+    let cuts = retell (ap (cuts_text c.args.record.now.asked.channels c.args.record.now.body.now) (but_first c.args.line.starts c.args.line.d c.requires.line.1)) c.put_cuts.ensures.put in
     grown c.number.ensures.put (grown c.byte.ensures (grown c.number-2.ensures.put (grown cuts c.byte-2.ensures)))

@@ -38,12 +38,15 @@ loop-k-init c =
 pub put_line-requires : goal.put_line-requires
 put_line-requires c =
     let few = c.loop-k.invariant.accepted.fit.segments.few_segments in
-    let d_is : c.line_at-l.result.d ≡ c.loop-k.k + 1 = ap (λ (x : Line). x.d) c.line_at-l.ensures in (
-      omega (arith, head_length_lem c.args.term c.from.result),
-      omega arith,
-      omega arith,
-      ap (λ (x : Line). length x.starts) c.line_at-l.ensures ∙ answer_length _ _ _,
-    )
+    let d_is : c.line_at-l.result.d ≡ c.loop-k.k + 1 = ap (λ (x : Line). x.d) c.line_at-l.ensures in record {
+      channels = c.loop-k.invariant.accepted.lent.channeled.few_channels;
+      line = (
+        omega (arith, head_length_lem c.args.term c.from.result),
+        omega arith,
+        omega arith,
+        ap (λ (x : Line). length x.starts) c.line_at-l.ensures ∙ answer_length _ _ _,
+      );
+    }
 
 pub loop-k-preserved : goal.loop-k-preserved
 loop-k-preserved c = record {

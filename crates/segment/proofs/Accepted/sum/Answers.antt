@@ -9,9 +9,9 @@ use Rattle.cutting.specs.Limits.{most_observations}
 use Rattle.sample.specs.Level.{level, largest, largest_level}
 use Rattle.kernel.proofs.Diff.{◌⊖◌, ⊖-eq, ⊖-add, ⊖-neg, pos-⊖}
 use Rattle.kernel.specs.Pairs.{sum}
-use Rattle.record.specs.declared.Asked.{Asked}
+use Rattle.record.specs.declared.channels.Channels.{Channels}
 use Rattle.record.specs.Body.{samples}
-use Rattle.segment.specs.Summary.{Stretch, stretch_of, most_sum, sum_of}
+use Rattle.segment.specs.Summary.{Stretch, numbers_of, most_sum, sum_of}
 use Rattle.segment.proofs.Sum.{levels_small, sum_is, sum_small}
 use Rattle.segment.proofs.Accepted.sum.Goals as goal
 
@@ -26,13 +26,13 @@ small_fits : (z : ℤ) → nat_abs z ≤ most_sum → SFits w64 z
 small_fits (pos n) h = record { sfits = omega arith }
 small_fits (negsuc n) h = record { sfits = omega arith }
 
-module _ (asked : Asked) (body : List ℕ) (first len : ℕ) (stretch : Stretch asked body first len) (r : ℕ)
-    (is : r ≡ sum level (stretch_of (samples asked body) first len)) where
+module _ (ch : Channels) (body : List ℕ) (first len : ℕ) (stretch : Stretch ch body first len) (c : ℕ) (used : c < ch.count) (r : ℕ)
+    (is : r ≡ sum level (numbers_of (samples ch body) first len c)) where
   levels_fit : r ≤ most_observations * largest_level
-  levels_fit = omega (arith, is, levels_small asked body first len stretch)
+  levels_fit = omega (arith, is, levels_small ch body first len stretch c used)
 
   abbrev total : ℤ
-  total = sum_of (stretch_of (samples asked body) first len)
+  total = sum_of (numbers_of (samples ch body) first len c)
 
   is_sum : to_z w64 r -ℤ to_z w64 (largest * len) ≡ total
   is_sum =
@@ -41,23 +41,18 @@ module _ (asked : Asked) (body : List ℕ) (first len : ℕ) (stretch : Stretch 
       rw (to_z_pos w64 r l, to_z_pos w64 (largest * len) m)
       (difference r (largest * len)
       ∙ ap (λ (n : ℕ). n ⊖ largest * len) is
-      ∙ sym (sum_is asked body first len stretch))
+      ∙ sym (sum_is ch body first len stretch c used))
 
   sum_fits : SFits w64 (to_z w64 r -ℤ to_z w64 (largest * len))
-  sum_fits = rw is_sum (small_fits total (sum_small asked body first len stretch))
+  sum_fits = rw is_sum (small_fits total (sum_small ch body first len stretch c used))
 
 pub overflow_cast-result : goal.overflow_cast-result
-overflow_cast-result c =
-    let a = c.args in
-    omega (arith, levels_fit a.self.now.record.now.asked a.self.now.record.now.body.now a.self.now.first.0 a.self.now.len c.args.self.now.lies _ c.levels-levels.ensures)
+overflow_cast-result c = omega (arith, levels_fit _ _ _ _ c.args.self.now.accepted.stretch _ c.requires _ c.levels-levels.ensures)
 
 pub overflow_sub-result : goal.overflow_sub-result
-overflow_sub-result c =
-    let a = c.args in
-    sum_fits a.self.now.record.now.asked a.self.now.record.now.body.now a.self.now.first.0 a.self.now.len c.args.self.now.lies _ c.levels-levels.ensures
+overflow_sub-result c = sum_fits _ _ _ _ c.args.self.now.accepted.stretch _ c.requires _ c.levels-levels.ensures
 
 pub returns : goal.returns
 returns c =
-    let a = c.args in
-    to_z-of_z w64 _ (sum_fits a.self.now.record.now.asked a.self.now.record.now.body.now a.self.now.first.0 a.self.now.len c.args.self.now.lies _ c.levels-levels.ensures)
-    ∙ is_sum a.self.now.record.now.asked a.self.now.record.now.body.now a.self.now.first.0 a.self.now.len c.args.self.now.lies _ c.levels-levels.ensures
+    let t = c.args.self.now.accepted.stretch in
+    to_z-of_z w64 _ (sum_fits _ _ _ _ t _ c.requires _ c.levels-levels.ensures) ∙ is_sum _ _ _ _ t _ c.requires _ c.levels-levels.ensures

@@ -27,22 +27,21 @@ other n k e not = ne_eqb n 2 (λ z. not (let s : Some k ≡ Some Spelling = sym 
 
 pub returns-in-Spelling : goal.returns-in-Spelling
 unfolding summary_of of_bits
-returns-in-Spelling c = rw (spelling _ _ c.args.self.now.named c.in-Spelling.is)
+returns-in-Spelling c = rw (spelling _ _ c.kernel.ensures c.in-Spelling.is)
 
 pub mean_of-mean-requires : goal.mean_of-mean-requires
 mean_of-mean-requires c =
-    let a = c.args in
-    let s = c.args.self.now.lies in
+    let t = c.args.self.now.accepted.stretch in
     let is = back c.sum-sum.result _ (record { sfits = c.sum-sum.type_inv }) c.sum-sum.ensures in (
-      subst (λ (z : ℤ). nat_abs z ≤ most_sum) (sym is) (sum_small a.self.now.record.now.asked a.self.now.record.now.body.now a.self.now.first.0 a.self.now.len s),
-      omega (arith, s.within, s.few),
+      subst (λ (z : ℤ). nat_abs z ≤ most_sum) (sym is) (sum_small _ _ _ _ t _ c.requires),
+      omega (arith, t.within, t.few),
     )
 
 pub returns : goal.returns
 unfolding summary_of
 returns c =
-    let a = c.args in
+    let a = c.args.self.now in
     let total = back c.sum-sum.result _ (record { sfits = c.sum-sum.type_inv }) c.sum-sum.ensures in
-    let mean = c.mean_of-mean.ensures ∙ ap (λ (z : ℤ). mean_of z a.self.now.len) total in
-    rw (other _ _ c.args.self.now.named c.in_default.not-Spelling)
-    (λ i. record { first = a.self.now.first; len = a.self.now.len; sum = total i; mean = mean i })
+    let mean = c.mean_of-mean.ensures ∙ ap (λ (z : ℤ). mean_of z a.len) total in
+    rw (other _ _ c.kernel.ensures c.in_default.not-Spelling)
+    (λ i. record { first = a.first; len = a.len; sum = total i; mean = mean i })
