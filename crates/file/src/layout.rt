@@ -44,12 +44,12 @@ impl Widths {
         match form {
             0 => Widths {
                 channels: 0,
-                pairs: limits::PAIR_BYTES,
+                pairs: record::PAIR_BYTES,
                 offset: limits::OFFSET_BYTES,
             },
             _ => Widths {
                 channels: limits::CHANNELS_BYTES,
-                pairs: limits::PAIRS_BYTES,
+                pairs: record::PAIRS_BYTES,
                 offset: limits::OFFSET_BYTES,
             },
         }
@@ -61,7 +61,7 @@ impl Widths {
     {
         Widths {
             channels: limits::CHANNELS_BYTES,
-            pairs: limits::PAIRS_BYTES,
+            pairs: record::PAIRS_BYTES,
             offset: 0,
         }
     }

@@ -15,10 +15,6 @@ pub(crate) const TERM_BYTES: usize = 2;
 
 pub(crate) const CHANNELS_BYTES: usize = 1;
 
-pub(crate) const PAIR_BYTES: usize = 2;
-
-pub(crate) const PAIRS_BYTES: usize = 8;
-
 pub(crate) const DMAX_BYTES: usize = 2;
 
 pub(crate) const N_BYTES: usize = 2;
@@ -27,7 +23,7 @@ pub(crate) const OFFSET_BYTES: usize = 4;
 
 pub(crate) const LENT_BYTES: usize = TERM_BYTES
     + CHANNELS_BYTES
-    + PAIRS_BYTES
+    + record::PAIRS_BYTES
     + DMAX_BYTES
     + N_BYTES;
 

@@ -14,9 +14,10 @@ use crate::{DAY_BYTES, MOST_KIND, SAMPLE_BYTES};
 use kernel::{Kernel, MOST_CHANNELS};
 use reply::{Reason, Refusal};
 
-const PAIR_BYTES: usize = 2;
+// The bytes of a kernel and a sample kind, and of four such pairs.
+pub const PAIR_BYTES: usize = 2;
 
-const PAIRS_BYTES: usize = 8;
+pub const PAIRS_BYTES: usize = 8;
 
 const BYTE_LIMIT: u64 = 256;
 
