@@ -1,4 +1,5 @@
--- The fields of an entry as the rules name them: where each stands in a form, and that they make the entry. Assumes nothing.
+-- The channels of an entry as the rules name them: a kernel's number and a sample kind are a byte each, and equal fields make equal entries. Assumes
+-- nothing.
 use Prim.Native.Nat.{ℕ, zero, suc, ◌+◌, ◌-◌, ◌*◌, ◌/◌, ◌%◌, ◌≤◌, ◌<◌}
 use mathlib.Core.Path.{◌≡◌, sym, ap, ◌∙◌}
 use mathlib.Core.List.{List}
@@ -7,59 +8,18 @@ use native.Mathlib.Omega.{arith}
 use Rattle.table.specs.Num.{num}
 use Rattle.record.specs.declared.channels.Channels.{Channels}
 use Rattle.record.specs.Limits.{byte_limit, pair_limit, pair_bytes, pairs_bytes}
-use Rattle.record.specs.Channels.{pairs_from, kernel_in, kind_in, one_channel}
+use Rattle.record.specs.Channels.{pairs_from, kernel_in, kind_in}
 use Rattle.record.specs.Accepted.{Channeled}
 use Rattle.file.specs.declared.layout.Entry.{Entry}
-use Rattle.file.specs.Layout.{widths_of, entry_at, field}
 use Rattle.file.specs.Items.{Bytes, SameFields}
 use Rattle.file.specs.Sound.{InOrder}
 
--- ---- form 0
-pair_number : (s : List ℕ) (p q : ℕ) → p + 1 ≡ q → num pair_bytes s p ≡ num 1 s p + byte_limit * num 1 s q
+-- ---- the two bytes of one pair as one number
+pub pair_number : (s : List ℕ) (p q : ℕ) → p + 1 ≡ q → num pair_bytes s p ≡ num 1 s p + byte_limit * num 1 s q
 unfolding num
 pair_number s p q e = let next : suc p ≡ q = sym (add-one p) ∙ e in rw (sym next) (omega arith)
 
-pub fields_0 :
-    (s : List ℕ) (p : ℕ) →
-    entry_at (widths_of 0) s p
-    ≡ record {
-      term = num 2 s p;
-      asked = record { channels = one_channel (num 1 s (p + 2)) (num 1 s (p + 3)); dmax = num 2 s (p + 4) };
-      n = num 2 s (p + 6);
-    }
-unfolding entry_at field
-fields_0 s p =
-    let at : p + 2 + 0 ≡ p + 2 = omega arith in
-    let pairs : num pair_bytes s (p + 2 + 0) ≡ num 1 s (p + 2) + byte_limit * num 1 s (p + 3) =
-    ap (num pair_bytes s) at ∙ pair_number s (p + 2) (p + 3) (omega arith) in
-    let dmax_at : p + 2 + 0 + 2 ≡ p + 4 = omega arith in
-    let n_at : p + 2 + 0 + 2 + 2 ≡ p + 6 = omega arith in
-    λ i. record {
-      term = num 2 s p;
-      asked = record { channels = record { count = 1; pairs = pairs i }; dmax = num 2 s (dmax_at i) };
-      n = num 2 s (n_at i);
-    }
-
--- ---- form 1
-pub fields_1 :
-    (s : List ℕ) (p : ℕ) →
-    entry_at (widths_of 1) s p
-    ≡ record {
-      term = num 2 s p;
-      asked = record { channels = record { count = num 1 s (p + 2); pairs = num 8 s (p + 3) }; dmax = num 2 s (p + 11) };
-      n = num 2 s (p + 13);
-    }
-unfolding entry_at field
-fields_1 s p =
-    let pairs_at : p + 2 + 1 ≡ p + 3 = omega arith in
-    let dmax_at : p + 2 + 1 + 8 ≡ p + 11 = omega arith in
-    let n_at : p + 2 + 1 + 8 + 2 ≡ p + 13 = omega arith in
-    λ i. record {
-      term = num 2 s p;
-      asked = record { channels = record { count = num 1 s (p + 2); pairs = num 8 s (pairs_at i) }; dmax = num 2 s (dmax_at i) };
-      n = num 2 s (n_at i);
-    }
-
+-- ---- four pairs as one number
 module _ (s : List ℕ) (B : Bytes s) where
   -- a number without its lowest two bytes, and those two
   two_fewer : (k m p : ℕ) → k ≡ suc (suc m) → num k s p / pair_limit ≡ num m s (p + 2)
