@@ -4,7 +4,7 @@ use native.Mathlib.Nat.{mul-le-mul_left}
 use native.Mathlib.Decide.{dec_lt}
 use native.Mathlib.Numerals.{add-one}
 use native.Mathlib.Omega.{arith}
-use mathlib.Core.Path.{◌≡◌, refl, sym, ap, ap₂, ◌∙◌}
+use mathlib.Core.Path.{◌≡◌, sym, ap, ap₂, ◌∙◌}
 use mathlib.Core.List.{List, []}
 use lib.ListN.{length, get_or, set, take, drop, length-take}
 use lib.Seq.{take-length, get_or-drop, get_or-take}
@@ -77,9 +77,6 @@ module _ {ks : List Kernel} {u : List ℕ} {n : ℕ} (o : Observed ks u n) where
   pub record Growing (t c : ℕ) (a₀ a : List ℕ) : Type 0 where
     pub long : length a ≡ length a₀
     pub grown : (s : ℕ) → s < t → get_or a s 0 ≡ tail ks us s t + added s t c
-
-  pub growing_begun : (t : ℕ) (a : List ℕ) → Tails ks us t a → Growing t 0 a a
-  growing_begun t a h = record { long = refl; grown = λ s b. omega (arith, h s b) }
 
   module _ (t c : ℕ) (a₀ a : List ℕ) (g : Growing t c a₀ a) (here : t < n) where
     added_small : (s : ℕ) → s < n → added s t c ≤ most_pair
