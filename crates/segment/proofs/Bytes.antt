@@ -9,12 +9,12 @@ use lib.ListN.{length, get_or}
 use lib.IntN.{ℤ, pos, negsuc, nat_abs}
 use lib.Ieee.{binary64, of_bits, to_bits}
 use lib.Ieee.Bits.{of_bits-to_bits, to_bits-lt}
-use Rattle.sample.specs.Word.{count_of}
+use Rattle.sample.specs.Word.{count_of, word_of}
 use Rattle.table.specs.Num.{num}
 use Rattle.table.proofs.Num.{length_put, put_above, num_put, num_put_before}
 use Rattle.segment.specs.declared.Summary.{Summary}
 use Rattle.segment.specs.Summary.{most_sum, no_summary}
-use Rattle.segment.specs.Bytes.{number_bytes, summary_bytes, word_of, length_offset, sum_offset, mean_offset, put_summary, Stands, put_first}
+use Rattle.segment.specs.Bytes.{number_bytes, summary_bytes, length_offset, sum_offset, mean_offset, put_summary, Stands, put_first}
 use Rattle.segment.proofs.Summaries.{Stored}
 
 -- ---- a number of a summary

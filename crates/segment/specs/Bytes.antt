@@ -1,9 +1,9 @@
 -- The summaries of a stretch in lent bytes.
-use Rattle.std.specs.Prelude.{ℕ, zero, suc, ◌+◌, ◌-◌, ◌*◌, ◌^◌, ◌≡◌, List, [], ◌∷◌, ◌++◌, length, get_or, ℤ, pos, negsuc}
+use Rattle.std.specs.Prelude.{ℕ, zero, suc, ◌+◌, ◌*◌, ◌≡◌, List, [], ◌∷◌, ◌++◌, length, get_or}
 use Rattle.std.specs.Float.{binary64}
 use Rattle.std.specs.Float.Ieee.{to_bits, of_bits}
 use Rattle.kernel.specs.Limits.{most_channels}
-use Rattle.sample.specs.Word.{count_of}
+use Rattle.sample.specs.Word.{count_of, word_of}
 use Rattle.table.specs.Num.{num, put}
 use Rattle.reply.specs.declared.Reply.{Reply}
 use Rattle.reply.specs.Reply.{if_done}
@@ -39,11 +39,6 @@ summarize_codes = summary_codes ++ (7 ∷ [])
 -- the reply, where `room` bytes are lent
 unfoldable pub summarize_reply : Asked → List ℕ → (first len room : ℕ) → Reply
 summarize_reply asked body first len room = first_of (summarize_tries asked body first len room)
-
--- a signed number of 64 bits as the number that its bits are, in two's complement
-abbrev pub word_of : ℤ → ℕ
-word_of (pos n) = n
-word_of (negsuc n) = 2 ^ 64 - 1 - n
 
 -- where a summary's numbers stand behind its first byte
 abbrev pub length_offset : ℕ

@@ -4,7 +4,8 @@ use lib.IntN.{ℤ, pos, negsuc}
 use mir.Syntax.{w64}
 use mir.Val.{SFits, to_z, of_z}
 use mir.ValLaws.{to_z-of_z}
-use Rattle.segment.specs.Bytes.{word_of, put_summary}
+use Rattle.sample.specs.Word.{word_of}
+use Rattle.segment.specs.Bytes.{put_summary}
 use Rattle.segment.proofs.write_summary.Goals as goal
 
 -- the bits of a signed number are its word
